@@ -1,0 +1,7 @@
+pub mod Lengths
+pub mod Splicing
+pub mod Stepping
+pub mod WalkSteps
+pub mod Streaming
+pub mod DigitSteps
+pub mod Sequence

@@ -1,0 +1,9 @@
+pub mod Words
+pub mod Splices
+pub mod Bytes
+pub mod Cursor
+pub mod Numbers
+pub mod Causes
+pub mod Streams
+pub mod Writing
+pub mod InMemory
