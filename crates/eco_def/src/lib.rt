@@ -1,0 +1,20 @@
+//! Designs of DEF texts: LEF/DEF 5.8 Language Reference, in the profile of docs/FORMATS.md.
+#![tactic(auto)]
+
+mod comps;
+mod design;
+mod fault;
+mod first_fault;
+mod names;
+mod orient;
+mod part;
+mod place;
+mod reader;
+
+pub use crate::design::{Comp, Design, Joint, NetStatement, TopPin};
+pub use crate::fault::DefFault;
+pub use crate::first_fault::{FirstFault, Section};
+pub use crate::orient::Orient;
+pub use crate::place::Place;
+pub use crate::names::add_name;
+pub use crate::reader::Reader;

@@ -1,0 +1,19 @@
+//! Names that stand once.
+
+ghost use Rattle.std.specs.Prelude.{◌≡◌, ℕ, List, true, false, not, IfOk, OnOk, if◌then◌else◌};
+ghost use Rattle.std.specs.Str.{bytes_eq};
+ghost use Rattle.eco_def.specs.Known.{knows};
+
+use std::alloc::{AllocError, Global};
+use std::collections::HashMap;
+
+/// The names that have stood so far.
+pub type Names<'a> = HashMap<&'a [u8], ()>;
+
+/// Adds a name, and says whether it is new.
+pub fn add_name<'a>(names: &mut Names<'a>, name: &'a [u8]) -> Result<bool, AllocError>
+    ensures added { IfOk result (λ b. b ≡ not (knows names.old name.now)) }
+    ensures names { OnOk result ((q : List ℕ) → knows names.new q ≡ (if bytes_eq name.now q then true else knows names.old q)) }
+{
+    Ok(names.insert(name, ())?.is_none())
+}
