@@ -1,2 +1,3 @@
 pub mod Loops
 mod Knowing
+pub mod Placing

@@ -1,6 +1,6 @@
 -- A loop that reads values while the next word passes a test.
 use Rattle.std.proofs.Common.{◌≡◌, ℕ, zero, suc, ◌≤◌, Bool, true, false, List, [], ◌∷◌, ◌++◌, map, Option, Some, None, Ok, Err, refl, ap, sym, subst, ◌∙◌, arith, if◌then◌else◌}
-use Rattle.std.specs.Option.{option_or}
+use Rattle.std.specs.Option.{option_or, option_map}
 use Rattle.eco_text.specs.Words.{Token, Walk}
 use Rattle.eco_def.specs.Parsing.{Parser, then_read, begins, many, many_for, first_some, size}
 use Rattle.eco_def.specs.declared.first_fault.FirstFault.{FirstFault}
@@ -83,3 +83,7 @@ first_some-push [] None = refl
 first_some-push [] (Some x) = refl
 first_some-push (None ∷ xs) o = first_some-push xs o
 first_some-push (Some x ∷ xs) o = refl
+
+pub or_map : {A B : Type 0} (f : A → B) (o p : Option A) → option_map f (option_or o p) ≡ option_or (option_map f o) (option_map f p)
+or_map f None p = refl
+or_map f (Some x) p = refl

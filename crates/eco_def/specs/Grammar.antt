@@ -186,14 +186,18 @@ some_use = any >>= λ heading. name >>= λ n. give (Some n)
 
 -- the net's use, where it has none yet, or a word that is passed over
 unfoldable pub net_clause_new : Bool → Parser (Option Token)
-net_clause_new used = choose (is_word (codes "+")) (any >>= λ plus. choose (λ w. not used && is_word (codes "USE") w) some_use (give None)) (any >>= λ other. give None)
+net_clause_new used = choose (is_word (codes "+")) (any >>= λ plus. if used then give None else choose (is_word (codes "USE")) some_use (give None)) (any >>= λ other. give None)
 
 abbrev pub net_clause : List (Option Token) → Parser (Option Token)
 net_clause before = net_clause_new (is_some (first_some before))
 
+-- the first use of the clauses up to the end
+abbrev pub net_usage : Parser (Option Token)
+net_usage = many_until (is_word (codes ";")) net_clause >>= λ clauses. give (first_some clauses)
+
 -- what stands behind a net's joints: clauses up to the end
 unfoldable pub net_tail : Parser (Option Token)
-net_tail = choose (is_one_of (codes "+" ∷ codes ";" ∷ [])) (many_until (is_word (codes ";")) net_clause >>= λ clauses. give (first_some clauses)) (refuse BadStatement)
+net_tail = choose (is_one_of (codes "+" ∷ codes ";" ∷ [])) net_usage (refuse BadStatement)
 
 abbrev pub net_name : (List ℕ → Bool) → Parser Token
 net_name known = choose (is_word (codes "MUSTJOIN")) (refuse MustJoin) (new_name known)

@@ -6,6 +6,7 @@ mod design;
 mod fault;
 mod first_fault;
 mod names;
+mod nets;
 mod orient;
 mod part;
 mod place;

@@ -7,7 +7,7 @@ ghost use Rattle.eco_text.specs.Words.{Token, walk_of};
 ghost use Rattle.eco_text.specs.Cursor.{token};
 ghost use Rattle.eco_text.specs.Numbers.{integer_of};
 ghost use Rattle.eco_def.specs.Parsing.{begins, any, refuse, is_word, word as word_at, name as name_at, is_name, is_mark as mark, is_name_byte, bytes_ahead, valued, pass_to};
-ghost use Rattle.eco_def.specs.declared.first_fault.FirstFault.TheVariants.{BadStatement, TwiceNamed, Memory};
+ghost use Rattle.eco_def.specs.declared.first_fault.FirstFault.TheVariants.{BadStatement, TwiceNamed, MustJoin, UnknownHeading, Memory};
 ghost use Rattle.eco_def.specs.Known.{knows, Adds};
 ghost use Rattle.eco_def.specs.Reading.{Reads, left, LiesIn, IsAhead, as_is};
 
@@ -162,6 +162,26 @@ impl<'a> Reader<'a> {
     {
         match self.ahead {
             Ok(Some(word)) => FirstFault::TwiceNamed { place: word.start },
+            _ => self.bad_statement(),
+        }
+    }
+
+    /// The fault of a word that begins nothing at the top level.
+    pub fn unknown_heading(&self) -> FirstFault
+        ensures { refuse {A = Token} UnknownHeading (left self.now) ≡ Err result }
+    {
+        match self.ahead {
+            Ok(Some(word)) => FirstFault::UnknownHeading { place: word.start },
+            _ => self.bad_statement(),
+        }
+    }
+
+    /// The fault of a `MUSTJOIN`, where there is a next word.
+    pub fn must_join(&self) -> FirstFault
+        ensures { refuse {A = Token} MustJoin (left self.now) ≡ Err result }
+    {
+        match self.ahead {
+            Ok(Some(word)) => FirstFault::MustJoin { place: word.start },
             _ => self.bad_statement(),
         }
     }

@@ -1,0 +1,20 @@
+use Rattle.std.proofs.Common.{◌≡◌, ℕ, List, map, codes}
+use Rattle.eco_def.specs.Parsing.{is_word, is_among, size}
+use Rattle.eco_def.specs.Grammar.{net}
+use Rattle.eco_def.specs.Known.{knows}
+use Rattle.eco_def.specs.View.{net_in}
+use Rattle.eco_def.specs.Reading.{left}
+use Rattle.eco_def.specs.Sections.{ArePlacedBetween, AreOrdinary}
+use Rattle.eco_def.proofs.Loops.{Loops}
+use Rattle.eco_def.proofs.reader.Reader.nets.Given as goal
+
+-- the statements that were read, whose names are known, and which lie one behind another
+abbrev pub invariant-statements : goal.invariant-statements
+invariant-statements l =
+  ((q : List ℕ) → knows l.names q ≡ is_among (map (λ n. n.name.bytes) (map (net_in l.initial.self.text) l.nets)) q)
+  × Loops (is_word (codes "-")) net l.initial.self (map (net_in l.initial.self.text) l.nets) l.self
+  × ArePlacedBetween l.initial.self l.self l.nets
+  × AreOrdinary l.nets
+
+abbrev pub decreases-statements : goal.decreases-statements
+decreases-statements l = size (left l.self)

@@ -1,0 +1,15 @@
+use Rattle.std.proofs.Common.{◌≡◌, List, Option, codes, not}
+use Rattle.eco_text.specs.Words.{Token}
+use Rattle.eco_def.specs.Parsing.{is_word, first_some, size}
+use Rattle.eco_def.specs.Grammar.{net_clause}
+use Rattle.eco_def.specs.View.{usage_in}
+use Rattle.eco_def.specs.Reading.{left}
+use Rattle.eco_def.proofs.Loops.{Loops}
+use Rattle.eco_def.proofs.reader.Reader.usage.Given as goal
+
+-- some clauses were read, and this is their first use
+abbrev pub invariant-clauses : goal.invariant-clauses
+invariant-clauses l = (clauses : List (Option Token)) × (usage_in l.initial.self.text l.usage ≡ first_some clauses) × Loops (λ w. not (is_word (codes ";") w)) net_clause l.initial.self clauses l.self
+
+abbrev pub decreases-clauses : goal.decreases-clauses
+decreases-clauses l = size (left l.self)

@@ -1,0 +1,155 @@
+//! Reading NETS.
+
+ghost use Rattle.std.specs.Prelude.{◌≡◌, false, IfOk};
+ghost use Rattle.eco_text.specs.Cursor.{token};
+ghost use Rattle.eco_def.specs.Grammar.{joint_end, joint, joints, some_use, net_clause_new, net_usage, net_tail, net_name, net_new, nets};
+ghost use Rattle.eco_def.specs.Known.{knows, Adds};
+ghost use Rattle.eco_def.specs.View.{joint_in, joints_in, usage_in, net_in, nets_in};
+ghost use Rattle.eco_def.specs.Reading.{Reads, IsAhead};
+ghost use Rattle.eco_def.specs.Sections.{IsPlaced, ArePlacedBetween, AreOrdinary};
+
+use crate::design::{Joint, NetStatement};
+use crate::first_fault::FirstFault;
+use crate::names::Names;
+use crate::reader::Reader;
+use eco_text::Word;
+use sqlite_items::Items;
+use std::alloc::Global;
+use std::collections::HashMap;
+
+impl<'a> Reader<'a> {
+    /// The `)` of a joint, behind `+ SYNTHESIZED` or not.
+    #[tactic(auto, unfolding(crate::specs::Grammar::joint_end))]
+    fn joint_end(&mut self) -> Result<Word, FirstFault>
+        ensures { Reads 1 token joint_end self.old self.new result }
+    {
+        if self.next_is(b"+") {
+            self.word(b"+")?;
+            self.word(b"SYNTHESIZED")?;
+        }
+        self.word(b")")
+    }
+
+    #[tactic(auto, unfolding(crate::specs::Grammar::joint))]
+    fn joint(&mut self) -> Result<Joint, FirstFault>
+        ensures { Reads 1 joint_in joint self.old self.new result }
+    {
+        let start = self.word(b"(")?.start;
+        let comp = self.name()?;
+        let pin = self.name()?;
+        let end = self.joint_end()?.end;
+        Ok(Joint {
+            comp,
+            pin,
+            start,
+            end,
+        })
+    }
+
+    fn joints(&mut self, alloc: Global) -> Result<Items<Joint>, FirstFault>
+        ensures { Reads 0 joints_in joints self.old self.new result }
+    {
+        let mut joints = Items::new(alloc);
+        'joints: while self.next_is(b"(") {
+            let joint = self.joint()?;
+            joints.push(joint)?;
+        }
+        Ok(joints)
+    }
+
+    #[tactic(auto, unfolding(crate::specs::Grammar::some_use))]
+    fn some_use(&mut self) -> Result<Option<Word>, FirstFault>
+        ensures { Reads 1 usage_in some_use self.old self.new result }
+    {
+        self.take()?;
+        Ok(Some(self.name()?))
+    }
+
+    /// The use of a net that has none yet, or a word that is passed over.
+    #[tactic(auto, unfolding(crate::specs::Grammar::net_clause_new))]
+    fn net_clause(&mut self, used: bool) -> Result<Option<Word>, FirstFault>
+        ensures { Reads 1 usage_in (net_clause_new used) self.old self.new result }
+    {
+        if !self.next_is(b"+") {
+            self.take()?;
+            return Ok(None);
+        }
+        self.take()?;
+        if used {
+            return Ok(None);
+        }
+        if !self.next_is(b"USE") {
+            return Ok(None);
+        }
+        self.some_use()
+    }
+
+    /// What stands behind a net's joints, up to the end: the first use.
+    #[tactic(auto, unfolding(crate::specs::Grammar::net_tail))]
+    fn net_tail(&mut self) -> Result<Option<Word>, FirstFault>
+        ensures { Reads 0 usage_in net_tail self.old self.new result }
+    {
+        if !self.next_is_one_of(&[b"+", b";"]) {
+            return Err(self.bad_statement());
+        }
+        self.usage()
+    }
+
+    fn usage(&mut self) -> Result<Option<Word>, FirstFault>
+        ensures { Reads 0 usage_in net_usage self.old self.new result }
+    {
+        let mut usage: Option<Word> = None;
+        'clauses: while self.next_is_not(b";") {
+            let clause = self.net_clause(usage.is_some())?;
+            usage = usage.or(clause);
+        }
+        Ok(usage)
+    }
+
+    fn net_name(&mut self, names: &mut Names<'a>) -> Result<Word, FirstFault>
+        ensures reads { Reads 1 token (net_name (knows names.old)) self.old self.new result }
+        ensures names { IfOk result (λ w. Adds names.old names.new (token self.old.text w).bytes) }
+        ensures ahead { IfOk result (λ w. IsAhead self.old self.new w) }
+    {
+        if self.next_is(b"MUSTJOIN") {
+            return Err(self.must_join());
+        }
+        self.new_name(names)
+    }
+
+    #[tactic(auto, unfolding(crate::specs::Grammar::net_new))]
+    fn net(&mut self, alloc: Global, names: &mut Names<'a>) -> Result<NetStatement, FirstFault>
+        ensures reads { Reads 1 net_in (net_new (knows names.old)) self.old self.new result }
+        ensures names { IfOk result (λ s. Adds names.old names.new (token self.old.text s.name).bytes) }
+        ensures placed { IfOk result (λ s. IsPlaced self.old self.new s) }
+        ensures ordinary { IfOk result (λ s. s.special ≡ false) }
+    {
+        let start = self.word(b"-")?.start;
+        let name = self.net_name(names)?;
+        let joints = self.joints(alloc)?;
+        let usage = self.net_tail()?;
+        let end = self.word(b";")?.end;
+        Ok(NetStatement {
+            name,
+            special: false,
+            start,
+            end,
+            usage,
+            joints,
+        })
+    }
+
+    pub fn nets(&mut self, alloc: Global) -> Result<Items<NetStatement>, FirstFault>
+        ensures reads { Reads 0 nets_in nets self.old self.new result }
+        ensures placed { IfOk result (λ ss. ArePlacedBetween self.old self.new ss) }
+        ensures ordinary { IfOk result (λ ss. AreOrdinary ss) }
+    {
+        let mut names = HashMap::new(alloc);
+        let mut nets = Items::new(alloc);
+        'statements: while self.next_is(b"-") {
+            let net = self.net(alloc, &mut names)?;
+            nets.push(net)?;
+        }
+        Ok(nets)
+    }
+}
