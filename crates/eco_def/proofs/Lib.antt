@@ -1,3 +1,6 @@
 pub mod Loops
 mod Knowing
 pub mod Placing
+mod Passing
+pub mod Headings
+mod Parts

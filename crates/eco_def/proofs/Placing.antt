@@ -18,3 +18,18 @@ ordinary_push (t ∷ ss) s before is = (before.0, ordinary_push ss s before.1 is
 pub is_some-map : {A B : Type 0} (f : A → B) (o : Option A) → is_some (option_map f o) ≡ is_some o
 is_some-map f None = refl
 is_some-map f (Some x) = refl
+
+-- words in order have room
+pub room : (lo hi : ℕ) (u : Walk) → IsInOrder lo hi u → lo ≤ hi
+room lo hi (finished place) order = omega (arith, order.0, order.1)
+room lo hi (open_quote place) order = omega (arith, order.0, order.1)
+room lo hi (word_then w u) order = let more = room w.end hi u order.2 in omega (arith, order.0, order.1, more)
+
+pub placed_up_to : (lo hi end : ℕ) (u : Walk) (ss : List NetStatement) → ((at : ℕ) → IsInOrder at hi u → at ≤ end) → ArePlacedUpTo lo hi u ss → ArePlaced lo end ss
+placed_up_to lo hi end u [] before order = before lo order
+placed_up_to lo hi end u (s ∷ ss) before order = (order.0, order.1, placed_up_to s.end hi end u ss before order.2)
+
+-- the words behind the statements begin no earlier than the place from which they are in order
+pub after_all : (lo hi : ℕ) (u : Walk) (ss : List NetStatement) → ArePlacedUpTo lo hi u ss → (at : ℕ) × IsInOrder at hi u
+after_all lo hi u [] order = (lo, order)
+after_all lo hi u (s ∷ ss) order = after_all s.end hi u ss order.2

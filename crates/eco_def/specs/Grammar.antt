@@ -351,9 +351,13 @@ design_from ps (Some n) None ns = Err (Missing NoComponents)
 design_from ps (Some n) (Some cs) None = Err (Missing NoNets)
 design_from ps (Some n) (Some cs) (Some ns) = Ok (record { units = n; comps = cs; pins = or_none (first_some (map pins_of ps)); special = or_none (first_some (map special_of ps)); nets = ns })
 
+-- the design of parts: the last UNITS counts, and each section stands once
+abbrev pub parts_design : List Part → Result Design FirstFault
+parts_design ps = design_from ps (last_some (map units_of ps)) (first_some (map comps_of ps)) (first_some (map nets_of ps))
+
 abbrev pub design_read : Result (List Part × Walk) FirstFault → Result Design FirstFault
 design_read (Err e) = Err e
-design_read (Ok x) = design_from x.0 (last_some (map units_of x.0)) (first_some (map comps_of x.0)) (first_some (map nets_of x.0))
+design_read (Ok x) = parts_design x.0
 
 -- the design of a text, or its first fault, whatever follows END DESIGN
 abbrev pub design_of : List ℕ → Result Design FirstFault

@@ -33,17 +33,21 @@ IsInOrder lo hi (finished place) = (lo ≤ place) × (place ≤ hi)
 IsInOrder lo hi (open_quote place) = (lo ≤ place) × (place ≤ hi)
 IsInOrder lo hi (word_then w u) = (lo ≤ w.start) × (w.start < w.end) × IsInOrder w.end hi u
 
--- What a reader answered, seen as a value of the grammar, and the words that it then has left, are what the parser gives, unless memory ran out.
+-- The parser gives this fault, unless memory ran out.
+abbrev pub Refuses : {A : Type 0} → Result (A × Walk) FirstFault → FirstFault → Type 0
+Refuses parsed Memory = Unit {0}
+Refuses parsed (OpenQuote p) = parsed ≡ Err (OpenQuote p)
+Refuses parsed (UnknownHeading p) = parsed ≡ Err (UnknownHeading p)
+Refuses parsed (Unended p) = parsed ≡ Err (Unended p)
+Refuses parsed (BadStatement p) = parsed ≡ Err (BadStatement p)
+Refuses parsed (TwiceNamed p) = parsed ≡ Err (TwiceNamed p)
+Refuses parsed (MustJoin p) = parsed ≡ Err (MustJoin p)
+Refuses parsed (Missing s) = parsed ≡ Err (Missing s)
+
+-- What a reader answered, seen as a value of the grammar, and the words that it then has left, are what the parser gives.
 abbrev pub Gives : {A B : Type 0} → (B → A) → Result (A × Walk) FirstFault → Result B FirstFault → Walk → Type 0
 Gives view parsed (Ok x) rest = parsed ≡ Ok (view x, rest)
-Gives view parsed (Err Memory) rest = Unit {0}
-Gives view parsed (Err (OpenQuote p)) rest = parsed ≡ Err (OpenQuote p)
-Gives view parsed (Err (UnknownHeading p)) rest = parsed ≡ Err (UnknownHeading p)
-Gives view parsed (Err (Unended p)) rest = parsed ≡ Err (Unended p)
-Gives view parsed (Err (BadStatement p)) rest = parsed ≡ Err (BadStatement p)
-Gives view parsed (Err (TwiceNamed p)) rest = parsed ≡ Err (TwiceNamed p)
-Gives view parsed (Err (MustJoin p)) rest = parsed ≡ Err (MustJoin p)
-Gives view parsed (Err (Missing s)) rest = parsed ≡ Err (Missing s)
+Gives view parsed (Err e) rest = Refuses parsed e
 
 -- A reader's call: it keeps the text, takes at least n words where it succeeds, leaves words in order, and answers what the parser gives.
 pub record Reads {A B : Type 0} (n : ℕ) (view : List ℕ → B → A) (parser : Parser A) (old new : Reading) (result : Result B FirstFault) : Type 0 where

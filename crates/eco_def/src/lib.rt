@@ -10,12 +10,13 @@ mod nets;
 mod orient;
 mod part;
 mod place;
+mod read;
 mod reader;
+mod sections;
 
 pub use crate::design::{Comp, Design, Joint, NetStatement, TopPin};
 pub use crate::fault::DefFault;
 pub use crate::first_fault::{FirstFault, Section};
 pub use crate::orient::Orient;
 pub use crate::place::Place;
-pub use crate::names::add_name;
-pub use crate::reader::Reader;
+pub use crate::read::{first_form_reads, read_def};

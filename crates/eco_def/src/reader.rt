@@ -176,6 +176,16 @@ impl<'a> Reader<'a> {
         }
     }
 
+    /// That fault, at a place before the next word.
+    pub fn unknown_heading_at(&self, place: u32) -> FirstFault
+        ensures { refuse {A = Token} (λ _. UnknownHeading place) (left self.now) ≡ Err result }
+    {
+        match self.ahead {
+            Ok(Some(_)) => FirstFault::UnknownHeading { place },
+            _ => self.bad_statement(),
+        }
+    }
+
     /// The fault of a `MUSTJOIN`, where there is a next word.
     pub fn must_join(&self) -> FirstFault
         ensures { refuse {A = Token} MustJoin (left self.now) ≡ Err result }

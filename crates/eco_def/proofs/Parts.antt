@@ -1,0 +1,151 @@
+-- Parts one after another, and the sections that they give.
+use Rattle.std.specs.List.{list_any}
+use Rattle.std.specs.Option.{option_or, option_map}
+use Rattle.std.proofs.Common.{◌≡◌, ℕ, Bool, true, false, ◌||◌, List, [], ◌∷◌, ◌++◌, map, not, Option, Some, None, is_some, IfSome, Result, Ok, Err, refl, ap, sym, ◌∙◌, subst, codes}
+use Rattle.eco_text.specs.Words.{Token, Walk}
+use Rattle.eco_def.specs.declared.first_fault.FirstFault.{FirstFault}
+use Rattle.eco_def.specs.declared.part.Part.{Part}
+use Rattle.eco_def.specs.declared.part.Part.TheVariants.{Passed, Units, Comps, Nets}
+use Rattle.eco_def.specs.declared.part.Sections.{Sections}
+use Rattle.eco_def.specs.declared.part.NetSection.{NetSection}
+use Rattle.eco_def.specs.Design as said
+use Rattle.eco_def.specs.Parsing.{then_read, is_word, first_some, many, many_until}
+use Rattle.eco_def.specs.Grammar.{Kind, CompKind, PinKind, SpecialKind, NetKind, NoKind, kind_of, same_kind, have, last_some, units_of, comps_of, pins_of, special_of, nets_of, end_design}
+use Rattle.eco_def.specs.FirstForm.{first_part, first_parts}
+use Rattle.eco_def.specs.View.{comp_in}
+use Rattle.eco_def.specs.Reading.{Reading, left, Reads, IsInOrder}
+use Rattle.eco_def.specs.Sections.{AreOf, part_in, section_in, seen_in, with_part, IsFresh, PartLies, PartIsOrdinary, SectionLies, SectionsLie, AreOrdinary}
+use Rattle.eco_def.proofs.Loops.{first_some-push, map_push}
+use Rattle.eco_def.proofs.Placing.{is_some-map}
+
+pub last_some-push : {A : Type 0} (xs : List (Option A)) (o : Option A) → last_some (xs ++ o ∷ []) ≡ option_or o (last_some xs)
+last_some-push [] None = refl
+last_some-push [] (Some x) = refl
+last_some-push (p ∷ xs) None = ap (λ k. option_or k p) (last_some-push xs None)
+last_some-push (p ∷ xs) (Some x) = ap (λ k. option_or k p) (last_some-push xs (Some x))
+
+first_more : {A : Type 0} (f : said.Part → Option A) (ps : List said.Part) (p : said.Part) → first_some (map f (ps ++ p ∷ [])) ≡ option_or (first_some (map f ps)) (f p)
+first_more f ps p = ap first_some (map_push f ps p) ∙ first_some-push (map f ps) (f p)
+
+last_more : {A : Type 0} (f : said.Part → Option A) (ps : List said.Part) (p : said.Part) → last_some (map f (ps ++ p ∷ [])) ≡ option_or (f p) (last_some (map f ps))
+last_more f ps p = ap last_some (map_push f ps p) ∙ last_some-push (map f ps) (f p)
+
+or_none : {A : Type 0} (o : Option A) → option_or o None ≡ o
+or_none None = refl
+or_none (Some x) = refl
+
+-- a part that has nothing of a kind leaves the first of that kind
+first_stays : {A : Type 0} (f : said.Part → Option A) (ps : List said.Part) (p : said.Part) → f p ≡ None → first_some (map f ps) ≡ first_some (map f (ps ++ p ∷ []))
+first_stays f ps p none = sym (first_more f ps p ∙ ap (option_or (first_some (map f ps))) none ∙ or_none (first_some (map f ps)))
+
+-- a part that has the first of its kind
+first_comes : {A : Type 0} (f : said.Part → Option A) (ps : List said.Part) (p : said.Part) → first_some (map f ps) ≡ None → f p ≡ first_some (map f (ps ++ p ∷ []))
+first_comes f ps p none = sym (first_more f ps p ∙ ap (λ o. option_or o (f p)) none)
+
+last_stays : {A : Type 0} (f : said.Part → Option A) (ps : List said.Part) (p : said.Part) → f p ≡ None → last_some (map f ps) ≡ last_some (map f (ps ++ p ∷ []))
+last_stays f ps p none = sym (last_more f ps p ∙ ap (λ o. option_or o (last_some (map f ps))) none)
+
+-- one more part
+pub one_more_part : (text : List ℕ) (s : Sections) (ps : List said.Part) (p : Part) → AreOf text s ps → IsFresh s p → AreOf text (with_part s p) (ps ++ part_in text p ∷ [])
+one_more_part text s ps Passed a fresh = record {
+  units = a.units ∙ last_stays units_of ps said.Passed refl;
+  comps = a.comps ∙ first_stays comps_of ps said.Passed refl;
+  pins = sym (first_stays pins_of ps said.Passed refl) ∙ a.pins;
+  special = sym (first_stays special_of ps said.Passed refl) ∙ a.special;
+  nets = a.nets ∙ first_stays nets_of ps said.Passed refl;
+}
+one_more_part text s ps (Units n) a fresh = record {
+  units = sym (last_more units_of ps (said.Units n));
+  comps = a.comps ∙ first_stays comps_of ps (said.Units n) refl;
+  pins = sym (first_stays pins_of ps (said.Units n) refl) ∙ a.pins;
+  special = sym (first_stays special_of ps (said.Units n) refl) ∙ a.special;
+  nets = a.nets ∙ first_stays nets_of ps (said.Units n) refl;
+}
+one_more_part text s ps (Comps cs) a fresh =
+  let p = said.Comps (map (comp_in text) cs) in
+  record {
+    units = a.units ∙ last_stays units_of ps p refl;
+    comps = first_comes comps_of ps p (sym a.comps ∙ ap (option_map (λ cs. map (comp_in text) cs)) fresh);
+    pins = sym (first_stays pins_of ps p refl) ∙ a.pins;
+    special = sym (first_stays special_of ps p refl) ∙ a.special;
+    nets = a.nets ∙ first_stays nets_of ps p refl;
+  }
+one_more_part text s ps (Nets ns) a fresh =
+  let p = said.Nets (section_in text ns) in
+  record {
+    units = a.units ∙ last_stays units_of ps p refl;
+    comps = a.comps ∙ first_stays comps_of ps p refl;
+    pins = sym (first_stays pins_of ps p refl) ∙ a.pins;
+    special = sym (first_stays special_of ps p refl) ∙ a.special;
+    nets = first_comes nets_of ps p (sym a.nets ∙ ap (option_map (section_in text)) fresh);
+  }
+
+-- ---- which sections have stood
+
+first_is_some : {A : Type 0} (o : Option A) (os : List (Option A)) → is_some (first_some (o ∷ os)) ≡ (is_some o || is_some (first_some os))
+first_is_some None os = refl
+first_is_some (Some x) os = refl
+
+have_some : {A : Type 0} (f : said.Part → Option A) (k : Kind) (ps : List said.Part) → ((p : said.Part) → is_some (f p) ≡ same_kind k (kind_of p)) → is_some (first_some (map f ps)) ≡ have ps k
+have_some f k [] each = refl
+have_some f k (p ∷ ps) each = first_is_some (f p) (map f ps) ∙ ap (λ b. b || is_some (first_some (map f ps))) (each p) ∙ ap (λ b. same_kind k (kind_of p) || b) (have_some f k ps each)
+
+comps_kind : (p : said.Part) → is_some (comps_of p) ≡ same_kind CompKind (kind_of p)
+comps_kind said.Passed = refl
+comps_kind (said.Units n) = refl
+comps_kind (said.Comps cs) = refl
+comps_kind (said.Pins ps) = refl
+comps_kind (said.Special ss) = refl
+comps_kind (said.Nets s) = refl
+
+pins_kind : (p : said.Part) → is_some (pins_of p) ≡ same_kind PinKind (kind_of p)
+pins_kind said.Passed = refl
+pins_kind (said.Units n) = refl
+pins_kind (said.Comps cs) = refl
+pins_kind (said.Pins ps) = refl
+pins_kind (said.Special ss) = refl
+pins_kind (said.Nets s) = refl
+
+special_kind : (p : said.Part) → is_some (special_of p) ≡ same_kind SpecialKind (kind_of p)
+special_kind said.Passed = refl
+special_kind (said.Units n) = refl
+special_kind (said.Comps cs) = refl
+special_kind (said.Pins ps) = refl
+special_kind (said.Special ss) = refl
+special_kind (said.Nets s) = refl
+
+nets_kind : (p : said.Part) → is_some (nets_of p) ≡ same_kind NetKind (kind_of p)
+nets_kind said.Passed = refl
+nets_kind (said.Units n) = refl
+nets_kind (said.Comps cs) = refl
+nets_kind (said.Pins ps) = refl
+nets_kind (said.Special ss) = refl
+nets_kind (said.Nets s) = refl
+
+no_kind : (ps : List said.Part) → false ≡ have ps NoKind
+no_kind [] = refl
+no_kind (p ∷ ps) = no_kind ps ∙ ap (λ b. b || have ps NoKind) (none (kind_of p))
+  where
+    none : (k : Kind) → false ≡ same_kind NoKind k
+    none CompKind = refl
+    none PinKind = refl
+    none SpecialKind = refl
+    none NetKind = refl
+    none NoKind = refl
+
+-- the sections that have stood are those that the parts have
+pub seen_is : (text : List ℕ) (s : Sections) (ps : List said.Part) → AreOf text s ps → (k : Kind) → seen_in s k ≡ have ps k
+seen_is text s ps a CompKind = sym (is_some-map (λ cs. map (comp_in text) cs) s.comps) ∙ ap is_some a.comps ∙ have_some comps_of CompKind ps comps_kind
+seen_is text s ps a PinKind = ap is_some (sym a.pins) ∙ have_some pins_of PinKind ps pins_kind
+seen_is text s ps a SpecialKind = ap is_some (sym a.special) ∙ have_some special_of SpecialKind ps special_kind
+seen_is text s ps a NetKind = sym (is_some-map (section_in text) s.nets) ∙ ap is_some a.nets ∙ have_some nets_of NetKind ps nets_kind
+seen_is text s ps a NoKind = no_kind ps
+
+-- ---- where they lie
+
+pub lie_more : (start now : Reading) (s : Sections) (p : Part) → ((lo hi : ℕ) → IsInOrder lo hi (left start) → IsInOrder lo hi (left now)) →
+    SectionsLie start s → PartLies now p → PartIsOrdinary p → SectionsLie start (with_part s p)
+lie_more start now s Passed order before lies ordinary = record { lie = before.lie; ordinary = before.ordinary }
+lie_more start now s (Units n) order before lies ordinary = record { lie = before.lie; ordinary = before.ordinary }
+lie_more start now s (Comps cs) order before lies ordinary = record { lie = before.lie; ordinary = before.ordinary }
+lie_more start now s (Nets ns) order before lies ordinary = record { lie = λ lo hi o. lies lo hi (order lo hi o); ordinary = ordinary }
