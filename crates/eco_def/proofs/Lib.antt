@@ -4,3 +4,6 @@ pub mod Placing
 mod Passing
 pub mod Headings
 mod Parts
+pub mod WalkOrder
+mod FirstForms
+pub mod Designs
