@@ -47,7 +47,7 @@ lies_is text old s d start is lie =
   let ns : NetSection = record { count = d.net_count; nets = d.nets; end = d.nets_end } in
   let l = subst (λ o. IfSome o (λ ns. (lo hi : ℕ) → IsInOrder lo hi (left old) → SectionLies lo hi ns)) is.nets lie.lie in
   let o = subst (λ o. IfSome o (λ ns. AreOrdinary ns.nets)) is.nets lie.ordinary in
-  record { lies = l 0 (length text) (subst (IsInOrder 0 (length text)) (sym start) (words_in_order text)); ordinary = o }
+  record { lies = l 0 (length text) (subst (IsInOrder 0 (length text)) (sym start) (words_in_order text)); ordinary = o; no_pins = is.pins }
 
 pub first_design : (text : List ℕ) (old : Reading) (s : Sections) (ps : List said.Part) (rest : Walk) (r : Result Design FirstFault) →
     old.text ≡ text → left old ≡ walk_of text → AreOf old.text s ps → first_parts (left old) ≡ Ok (ps, rest) → SectionsLie old s → IfOk r (IsOfSections s) → IfOk r (IsFirstDesign text)
@@ -114,21 +114,21 @@ limits_fit text d ordinary none w =
     (le-leb (length d.nets) 1000000 (omega (arith, k.nets, w.nets)))
     (le-leb (sum_by (λ s. length s.joints) d.nets) 4000000 (omega (arith, k.joints, w.joints)))
 
-pub within_form : (text : List ℕ) (d : Design) → IsFirstDesign text d → d.pins ≡ [] → fits d ≡ true → IsFirstForm text (design_in text d)
-within_form text d first none is = record { read = first.read; limits = fits_limits text d first.lies.ordinary none is }
+pub within_form : (text : List ℕ) (d : Design) → IsFirstDesign text d → fits d ≡ true → IsFirstForm text (design_in text d)
+within_form text d first is = record { read = first.read; limits = fits_limits text d first.lies.ordinary first.lies.no_pins is }
 
-pub within_reading : (text : List ℕ) (d : Design) → IsFirstDesign text d → d.pins ≡ [] → fits d ≡ true → IsReadingOf text d
-within_reading text d first none is = record { read = first_form text (design_in text d) first.read; limits = fits_limits text d first.lies.ordinary none is; lies = first.lies }
+pub within_reading : (text : List ℕ) (d : Design) → IsFirstDesign text d → fits d ≡ true → IsReadingOf text d
+within_reading text d first is = record { read = first_form text (design_in text d) first.read; limits = fits_limits text d first.lies.ordinary first.lies.no_pins is; lies = first.lies }
 
 abbrev the : Result said.Design FirstFault → said.Design → said.Design
 the (Ok x) d = x
 the (Err e) d = d
 
 -- a design beyond the limits is the only one, and no first form
-pub beyond : (text : List ℕ) (d : Design) → IsFirstDesign text d → d.pins ≡ [] → fits d ≡ false → (e : said.Design) → IsFirstForm text e → ⊥
-beyond text d first none off e form =
+pub beyond : (text : List ℕ) (d : Design) → IsFirstDesign text d → fits d ≡ false → (e : said.Design) → IsFirstForm text e → ⊥
+beyond text d first off e form =
   let both : Ok (design_in text d) ≡ Ok e = sym first.read ∙ form.read in
   let same : design_in text d ≡ e = ap (λ r. the r e) both in
-  let on : fits d ≡ true = limits_fit text d first.lies.ordinary none (subst WithinLimits (sym same) form.limits) in
+  let on : fits d ≡ true = limits_fit text d first.lies.ordinary first.lies.no_pins (subst WithinLimits (sym same) form.limits) in
   let apart : true ≡ false = sym on ∙ off in
   cc

@@ -7,3 +7,4 @@ mod Parts
 pub mod WalkOrder
 mod FirstForms
 pub mod Designs
+mod Examples

@@ -6,3 +6,4 @@ pub mod View
 pub mod Reading
 pub mod Known
 pub mod Sections
+pub mod Named

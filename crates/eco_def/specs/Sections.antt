@@ -160,10 +160,11 @@ pub record IsOfSections (s : Sections) (d : Design) : Type 0 where
   pub pins : d.pins ≡ []
   pub nets : s.nets ≡ Some (record { count = d.net_count; nets = d.nets; end = d.nets_end })
 
--- where the sections of a design lie, whose statements are all of NETS
+-- Where NETS lies in a text of n bytes. So far a design has no other section of nets, and no top pins.
 pub record DesignLies (n : ℕ) (d : Design) : Type 0 where
   pub lies : LiesBetween 0 n d.net_count d.nets d.nets_end
   pub ordinary : AreOrdinary d.nets
+  pub no_pins : d.pins ≡ []
 
 -- the text has this design, under the first headings alone
 pub record IsFirstDesign (text : List ℕ) (d : Design) : Type 0 where

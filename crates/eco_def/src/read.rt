@@ -1,6 +1,6 @@
 //! The design of a text.
 
-ghost use Rattle.std.specs.Prelude.{◌≡◌, ◌⊎◌, ◌≤◌, ℕ, length, [], Err, IfOk, IfErr, IsErrOf, sum_by, nat_le};
+ghost use Rattle.std.specs.Prelude.{◌≡◌, ◌⊎◌, ◌≤◌, ℕ, length, Err, IfOk, IfErr, IsErrOf, sum_by, nat_le};
 ghost use Rattle.eco_def.specs.declared.first_fault.FirstFault.TheVariants.{Memory};
 ghost use Rattle.eco_def.specs.declared.fault.DefFault.TheVariants.{NotYet};
 ghost use Rattle.eco_def.specs.Design.{Design as SaidDesign};
@@ -22,7 +22,6 @@ const MOST_JOINTS: usize = 4_000_000;
 fn read_first(alloc: Global, text: &[u8]) -> Result<Design, FirstFault>
     requires { length text.now ≤ 134217728 }
     ensures design { IfOk result (IsFirstDesign text.now) }
-    ensures pins { IfOk result (λ d. d.pins ≡ []) }
     ensures fault { IfErr result (λ e. (e ≡ Memory) ⊎ (first_design_of text.now ≡ Err e)) }
 {
     let mut reader = Reader::new(text);

@@ -1,0 +1,67 @@
+-- Texts and their first faults, by computing the definitions.
+use Rattle.std.proofs.Common.{◌≡◌, ℕ, List, ◌++◌, Result, Ok, Err, refl, codes}
+use Rattle.eco_text.specs.Words.{walk_of}
+use Rattle.eco_def.specs.Design.{Design}
+use Rattle.eco_def.specs.Grammar.{parts, design_of, place, some_place, comp_clause, comp_place, comp_new, section_head, section_end, comp_section, joint_end, joint, some_use, net_clause_new, net_tail, net_new, special_section, net_section, units, part_new}
+use Rattle.eco_def.specs.declared.first_fault.FirstFault.{FirstFault}
+use Rattle.eco_def.specs.declared.first_fault.FirstFault.TheVariants.{OpenQuote, Unended, BadStatement, TwiceNamed, MustJoin, UnknownHeading, Missing}
+use Rattle.eco_def.specs.declared.first_fault.Section.TheVariants.{Units as NoUnits, Components as NoComponents, Nets as NoNets}
+
+abbrev IsFault : Result Design FirstFault → FirstFault → Type 0
+IsFault (Ok d) f = ⊥
+IsFault (Err e) f = e ≡ f
+
+abbrev cut_text : List ℕ
+cut_text = codes "UNITS DISTANCE MICRONS 1000 ; COMPONENTS 0 ; END COMPONENTS NETS 1 ; - a ( PIN"
+
+unended : IsFault (design_of (cut_text)) (Unended 78)
+unfolding parts part_new units comp_section section_head section_end net_section net_new joint special_section net_tail net_clause_new some_use place some_place comp_clause comp_place comp_new joint_end
+unended = refl
+
+open_quote : IsFault (design_of (cut_text ++ codes " \"x")) (OpenQuote 79)
+unfolding parts part_new units comp_section section_head section_end net_section net_new joint special_section net_tail net_clause_new some_use place some_place comp_clause comp_place comp_new joint_end
+open_quote = refl
+
+comment_end : IsFault (design_of (cut_text ++ codes " # x")) (Unended 82)
+unfolding parts part_new units comp_section section_head section_end net_section net_new joint special_section net_tail net_clause_new some_use place some_place comp_clause comp_place comp_new joint_end
+comment_end = refl
+
+bad_first : IsFault (design_of (codes "UNITS DISTANCE MICRONS 0 ; \"x")) (BadStatement 23)
+unfolding parts part_new units comp_section section_head section_end net_section net_new joint special_section net_tail net_clause_new some_use place some_place comp_clause comp_place comp_new joint_end
+bad_first = refl
+
+leading_zero : IsFault (design_of (codes "UNITS DISTANCE MICRONS 01 ;")) (BadStatement 23)
+unfolding parts part_new units comp_section section_head section_end net_section net_new joint special_section net_tail net_clause_new some_use place some_place comp_clause comp_place comp_new joint_end
+leading_zero = refl
+
+unknown : IsFault (design_of (codes "EXTRA 1 ;")) (UnknownHeading 0)
+unfolding parts part_new units comp_section section_head section_end net_section net_new joint special_section net_tail net_clause_new some_use place some_place comp_clause comp_place comp_new joint_end
+unknown = refl
+
+end_other : IsFault (design_of (codes "END x")) (UnknownHeading 0)
+unfolding parts part_new units comp_section section_head section_end net_section net_new joint special_section net_tail net_clause_new some_use place some_place comp_clause comp_place comp_new joint_end
+end_other = refl
+
+end_only : IsFault (design_of (codes "END ")) (Unended 4)
+unfolding parts part_new units comp_section section_head section_end net_section net_new joint special_section net_tail net_clause_new some_use place some_place comp_clause comp_place comp_new joint_end
+end_only = refl
+
+must_join : IsFault (design_of (codes "NETS 1 ; - MUSTJOIN ( u1 A ) ;")) (MustJoin 11)
+unfolding parts part_new units comp_section section_head section_end net_section net_new joint special_section net_tail net_clause_new some_use place some_place comp_clause comp_place comp_new joint_end
+must_join = refl
+
+twice : IsFault (design_of (codes "NETS 1 ; - a ; - a ( ; ")) (TwiceNamed 17)
+unfolding parts part_new units comp_section section_head section_end net_section net_new joint special_section net_tail net_clause_new some_use place some_place comp_clause comp_place comp_new joint_end
+twice = refl
+
+twice_section : IsFault (design_of (codes "NETS 1 ; END NETS NETS")) (TwiceNamed 18)
+unfolding parts part_new units comp_section section_head section_end net_section net_new joint special_section net_tail net_clause_new some_use place some_place comp_clause comp_place comp_new joint_end
+twice_section = refl
+
+no_nets : IsFault (design_of (codes "UNITS DISTANCE MICRONS 1 ; COMPONENTS 0 ; END COMPONENTS END DESIGN")) (Missing NoNets)
+unfolding parts part_new units comp_section section_head section_end net_section net_new joint special_section net_tail net_clause_new some_use place some_place comp_clause comp_place comp_new joint_end
+no_nets = refl
+
+no_units : IsFault (design_of (codes "NETS 0 ; END NETS END DESIGN")) (Missing NoUnits)
+unfolding parts part_new units comp_section section_head section_end net_section net_new joint special_section net_tail net_clause_new some_use place some_place comp_clause comp_place comp_new joint_end
+no_units = refl
