@@ -1,8 +1,12 @@
 use crate::{BadNumber, ByteSink, ByteSource, Failed, Sink, Source, TextFault, Words, read_i32, read_number};
+use std::process::Abort;
 use std::test::Fail;
 
 /// The words of a text, and the place of a quote that doesn't end.
-fn words_of(rt: &HostRuntime, text: &'static str) -> Result<(Vec<&'static str>, Option<u32>), Fail> {
+fn words_of<R: Abort + Alloc>(
+    rt: &R,
+    text: &'static str,
+) -> Result<(Vec<&'static str>, Option<u32>), Fail> {
     assert!(rt; text.len() <= 1000);
     let mut words = Words::new(text.as_bytes());
     let mut found = Vec::new(rt.alloc());
