@@ -1,6 +1,6 @@
 -- A walk one byte on.
 use Rattle.std.proofs.Common.{◌≡◌, ℕ, ◌+◌, true, List, [], ◌∷◌, refl, ap, ◌∙◌}
-use Rattle.eco_text.specs.Words.{Token, Walk, word_then, Mode, between, plain, is_blank, plain_word, step, ends, walk, ◌+++◌}
+use Rattle.eco_text.specs.Words.{Token, word_then, Mode, between, plain, is_blank, plain_word, step, ends, walk, ◌+++◌}
 
 -- a word ends before these bytes
 abbrev pub Closes : List ℕ → Type 0

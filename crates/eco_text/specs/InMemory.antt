@@ -1,5 +1,5 @@
 -- Sources and sinks in memory.
-use Rattle.std.specs.Prelude.{◌≡◌, ℕ, ◌==◌, Bool, true, List, Result, is_err}
+use Rattle.std.specs.Prelude.{◌≡◌, ℕ, ◌==◌, Bool, List}
 use Rattle.std.specs.List.{list_any}
 use Rattle.eco_text.specs.Causes.{next_count}
 

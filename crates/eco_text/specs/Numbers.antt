@@ -26,5 +26,5 @@ at_most limit number = option_and_then (λ n. if nat_le n limit then Some n else
 abbrev pub integer_of : List ℕ → Option ℤ
 integer_of [] = None
 integer_of (c ∷ cs) =
-  if c == 45 then option_and_then (λ n. Some (neg_ℤ (pos n))) (at_most (2 ^ 31) (natural_of cs))
-  else option_and_then (λ n. Some (pos n)) (at_most (2 ^ 31 - 1) (natural_of (c ∷ cs)))
+    if c == 45 then option_and_then (λ n. Some (neg_ℤ (pos n))) (at_most (2 ^ 31) (natural_of cs))
+    else option_and_then (λ n. Some (pos n)) (at_most (2 ^ 31 - 1) (natural_of (c ∷ cs)))

@@ -67,6 +67,7 @@ impl Sink for ByteSink {
     ghost use Rattle.std.specs.Prelude.{Some};
 
     ghost taken = { λ s. Some s.bytes };
+
     ghost faults = { λ s. s.faults };
 
     fn write_all(&mut self, piece: &[u8]) -> Result<(), Failed>

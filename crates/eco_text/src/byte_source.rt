@@ -55,6 +55,7 @@ impl Source for ByteSource {
     ghost use Rattle.std.specs.Prelude.{Some};
 
     ghost left = { λ s. Some s.bytes };
+
     ghost faults = { λ s. s.faults };
 
     fn read(&mut self, piece: &mut [u8]) -> Result<usize, Failed>

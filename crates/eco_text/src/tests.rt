@@ -1,15 +1,19 @@
-use crate::{BadNumber, ByteSink, ByteSource, Failed, Sink, Source, TextFault, Words, read_i32, read_number};
+use crate::{
+    BadNumber, ByteSink, ByteSource, Failed, Sink, Source, TextFault, Words, read_i32, read_number,
+};
+use std::alloc::Global;
 use std::process::Abort;
 use std::test::Fail;
 
 /// The words of a text, and the place of a quote that doesn't end.
-fn words_of<R: Abort + Alloc>(
-    rt: &R,
+fn words_of(
+    rt: &impl Abort,
+    alloc: Global,
     text: &'static str,
 ) -> Result<(Vec<&'static str>, Option<u32>), Fail> {
     assert!(rt; text.len() <= 1000);
     let mut words = Words::new(text.as_bytes());
-    let mut found = Vec::new(rt.alloc());
+    let mut found = Vec::new(alloc);
     for _ in 0..text.len() {
         match words.next_word() {
             Ok(Some(word)) => match text.get(word.start as usize..word.end as usize) {
@@ -40,7 +44,7 @@ fn words_with_comments_quotes_and_ends(rt: HostRuntime) -> Result<(), Fail> {
         ("u1/r\\[0\\] (", "u1/r\\[0\\]|(", None),
     ];
     for (text, wanted, open) in texts {
-        let (words, place) = words_of(&rt, text)?;
+        let (words, place) = words_of(&rt, rt.alloc(), text)?;
         let mut line = String::new(rt.alloc());
         for (i, word) in words.iter().enumerate() {
             if 0 < i {
@@ -71,7 +75,13 @@ fn numbers_within_and_beyond_their_range(rt: HostRuntime) -> Result<(), Fail> {
     for (word, wanted) in integers {
         assert_eq!(rt; read_i32(word.as_bytes()), wanted);
     }
-    let numbers = [("0", Some(0)), ("10", Some(10)), ("01", None), ("11", None), ("", None)];
+    let numbers = [
+        ("0", Some(0)),
+        ("10", Some(10)),
+        ("01", None),
+        ("11", None),
+        ("", None),
+    ];
     for (word, wanted) in numbers {
         assert_eq!(rt; read_number(10, word.as_bytes()), wanted);
     }
