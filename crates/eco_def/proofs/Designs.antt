@@ -117,8 +117,8 @@ limits_fit text d ordinary none w =
 pub within_form : (text : List ℕ) (d : Design) → IsFirstDesign text d → fits d ≡ true → IsFirstForm text (design_in text d)
 within_form text d first is = record { read = first.read; limits = fits_limits text d first.lies.ordinary first.lies.no_pins is }
 
-pub within_reading : (text : List ℕ) (d : Design) → IsFirstDesign text d → fits d ≡ true → IsReadingOf text d
-within_reading text d first is = record { read = first_form text (design_in text d) first.read; limits = fits_limits text d first.lies.ordinary first.lies.no_pins is; lies = first.lies }
+pub within_reading : (text : List ℕ) (d : Design) → length text ≤ 134217728 → IsFirstDesign text d → fits d ≡ true → IsReadingOf text d
+within_reading text d short first is = record { short = short; read = first_form text (design_in text d) first.read; limits = fits_limits text d first.lies.ordinary first.lies.no_pins is; lies = first.lies }
 
 abbrev the : Result said.Design FirstFault → said.Design → said.Design
 the (Ok x) d = x

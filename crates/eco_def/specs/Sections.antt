@@ -177,6 +177,7 @@ fits d = nat_le (length d.comps) 1000000 && (nat_le (length d.nets) 1000000 && n
 
 -- the design is what the text says, by all rules and within all limits
 pub record IsReadingOf (text : List ℕ) (d : Design) : Type 0 where
+  pub short : length text ≤ 134217728
   pub read : design_of text ≡ Ok (design_in text d)
   pub limits : WithinLimits (design_in text d)
   pub lies : DesignLies (length text) d

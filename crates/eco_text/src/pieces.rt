@@ -6,13 +6,19 @@ ghost use Rattle.eco_text.specs.Writing.{joined, Writes};
 use crate::failed::Failed;
 use crate::sink::Sink;
 
-/// The bytes from one place to another, as far as there are any.
+/// The bytes from one index to another, as far as there are any.
+pub fn part(bytes: &[u8], from: usize, to: usize) -> &[u8]
+    ensures { result.now ≡ slice_range bytes.now from to }
+{
+    let to = bytes.len().min(to);
+    if from < to { &bytes[from..to] } else { &[] }
+}
+
+/// The bytes of a text from one place to another, as far as there are any.
 pub fn between(text: &[u8], from: u32, to: u32) -> &[u8]
     ensures { result.now ≡ slice_range text.now from to }
 {
-    let from = from as usize;
-    let to = text.len().min(to as usize);
-    if from < to { &text[from..to] } else { &[] }
+    part(text, from as usize, to as usize)
 }
 
 pub fn write_piece<K: Sink>(piece: &[u8], sink: &mut K) -> Result<(), Failed>

@@ -1,0 +1,5 @@
+pub mod Printing
+pub mod Changes
+pub mod Issued
+pub mod Overlays
+pub mod Moving

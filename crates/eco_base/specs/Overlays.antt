@@ -1,0 +1,34 @@
+-- Edits that share one list of new bytes.
+use Rattle.std.specs.Prelude.{◌≡◌, ℕ, ◌≤◌, Bool, false, not, ◌&&◌, List, [], ◌∷◌, ◌++◌, length, slice_range, if◌then◌else◌}
+use Rattle.std.specs.List.{flat_map, list_all}
+use Rattle.std.specs.Str.{bytes_eq}
+use Rattle.eco_text.specs.Cursor.{token}
+use Rattle.eco_def.specs.declared.design.NetStatement.{NetStatement}
+use Rattle.eco_def.specs.declared.design.Design.{Design}
+use Rattle.eco_def.specs.Design as said
+use Rattle.eco_def.specs.Named.{joint_names}
+use Rattle.eco_def.specs.View.{net_in, design_in}
+use Rattle.eco_base.specs.declared.stretch.Stretch.{Stretch}
+use Rattle.eco_base.specs.Changes.{NewJoint, stays_on, pin_of}
+use Rattle.eco_base.specs.Issued.{Edit, statement_text, IsOverlayOf}
+
+-- each stretch is replaced by the bytes from where the one before ends
+abbrev pub edits_of : List ℕ → ℕ → List Stretch → List Edit
+edits_of bytes from [] = []
+edits_of bytes from (s ∷ ss) = record { start = s.start; end = s.end; bytes = slice_range bytes from s.upto } ∷ edits_of bytes s.upto ss
+
+-- the ends never fall, and the last is hi
+abbrev pub Rises : ℕ → ℕ → List Stretch → Type 0
+Rises lo hi [] = lo ≡ hi
+Rises lo hi (s ∷ ss) = (lo ≤ s.upto) × Rises s.upto hi ss
+
+-- the edit of a statement where one pin is put on its net: none where nothing changes
+abbrev pub move_edits : List ℕ → NewJoint → Bool → said.Net → List Edit
+move_edits text n stands s =
+  let comes = not stands && bytes_eq s.name.bytes n.net in
+  if list_all (λ j. stays_on (n ∷ []) s.name.bytes (joint_names j)) s.joints && not comes then []
+  else record { start = s.start; end = s.end; bytes = statement_text text (stays_on (n ∷ []) s.name.bytes) (if comes then pin_of n ∷ [] else []) false s } ∷ []
+
+-- the overlay was made for the text and its design
+abbrev pub IsMadeFor : List ℕ → Design → List Edit → Type 0
+IsMadeFor text d overlay = (joints : List NewJoint) × (nets : List (List ℕ)) × IsOverlayOf text (design_in text d) joints nets overlay
