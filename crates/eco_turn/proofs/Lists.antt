@@ -2,8 +2,8 @@
 use Rattle.std.proofs.Common.{◌≡◌, ◌≢◌, ℕ, zero, suc, ◌+◌, ◌<◌, Option, Some, List, [], ◌∷◌, ◌++◌, map, length, get_or, set, drop, sym, refl, ap, subst, ◌∙◌, ◌⊎◌, ⊎_elim, inl, inr, arith, append_assoc}
 use mathlib.Core.Option.{some, some-injective, some-ne-none}
 use mathlib.Core.List.{IsPrefix}
-use lib.ListN.{get_elem?}
-use Rattle.std.specs.List.{sum_by}
+use lib.ListN.{get_elem?, length-map}
+use Rattle.std.specs.List.{sum_by, Contains}
 use Rattle.std.proofs.lemmas.List.{map-set}
 use Rattle.std.proofs.lemmas.List.Sums.{sum_by-set}
 use Rattle.std.proofs.Math.Seq.{drop-append_seam}
@@ -68,9 +68,22 @@ module _ {A : Type 0} where
   at_there (x ∷ xs) zero h = (x, refl)
   at_there (x ∷ xs) (suc j) h = at_there xs j (omega arith)
 
+  -- what holds of each element and its place
+  pub all_at : (K : ℕ → A → Type 0) (l : List A) → ((k : ℕ) (d : A) → k < length l → K k (get_or l k d)) → (k : ℕ) (a : A) → get_elem? l k ≡ some a → K k a
+  all_at K l all k a e = subst (K k) (at_or l k a a e) (all k a (at_below l k a e))
+
+  pub at_all : (K : ℕ → A → Type 0) (l : List A) → ((k : ℕ) (a : A) → get_elem? l k ≡ some a → K k a) → (k : ℕ) (d : A) → k < length l → K k (get_or l k d)
+  at_all K l each k d low = let t = at_there l k low in subst (K k) (sym (at_or l k t.0 d t.1)) (each k t.0 t.1)
+
   pub at_cons : (K : A → Type 0) (a : A) (l : List A) → K a → ((k : ℕ) (b : A) → get_elem? l k ≡ some b → K b) → (k : ℕ) (b : A) → get_elem? (a ∷ l) k ≡ some b → K b
   at_cons K a l here there zero b e = subst K (some-injective a b e) here
   at_cons K a l here there (suc k) b e = there k b e
+
+-- the element that has a value of f
+pub at_value : {A : Type 0} (f : A → ℕ) (l : List A) (n : ℕ) → Contains (map f l) n → (k : ℕ) × (a : A) × (get_elem? l k ≡ some a) × (f a ≡ n)
+at_value f l n has =
+    let low : has.0 < length l = subst (λ m. has.0 < m) (length-map l f) has.1 in let t = at_there l has.0 low in
+    (has.0, t.0, t.1, sym (at_or (map f l) has.0 (f t.0) n (at_map f l has.0 t.0 t.1)) ∙ has.2)
 
 module _ {T : Type 0} where
   abbrev first_or : T → List (ℕ × Option T) → T

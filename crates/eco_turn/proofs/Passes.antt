@@ -1,8 +1,10 @@
 -- What a pass knows, and the view of its seat.
-use Rattle.std.proofs.Common.{◌≡◌, ℕ, ◌<◌, ◌≤◌, List, [], ◌∷◌, Option, Some, None, sym, refl, ap, subst, ◌∙◌, inl, inr, ⊎_elim, suc, arith}
-use mathlib.Core.Option.{some}
+use Rattle.std.proofs.Common.{◌≡◌, ℕ, ◌+◌, ◌-◌, ◌<◌, ◌≤◌, List, [], ◌∷◌, map, length, get_or, Option, Some, None, sym, refl, ap, subst, ◌∙◌, inl, inr, ⊎_elim, suc, arith}
+use mathlib.Core.Option.{some, some-injective}
 use mathlib.Core.List.{IsPrefix}
-use lib.ListN.{get_elem?}
+use lib.ListN.{get_elem?, length-map}
+use Rattle.std.specs.List.{All}
+use Rattle.atomic_table.proofs.Lists.{at_map}
 use Rattle.atomic_table.specs.Table.{Me, rest, Final, Seen}
 use Rattle.atomic_table.specs.Seated.{TableId}
 use Rattle.atomic_table.specs.declared.badge.Badge.{Badge}
@@ -10,13 +12,14 @@ use Rattle.eco_turn.specs.declared.view.View.{View}
 use Rattle.eco_turn.specs.declared.view.Returned.{Returned}
 use Rattle.eco_turn.specs.declared.turn.Turn.{Turn}
 use Rattle.eco_turn.specs.declared.pass.Pass.{Pass}
-use Rattle.eco_turn.specs.Entries.{entries_by}
+use Rattle.eco_turn.specs.Entries.{entries_by, Grows}
 use Rattle.eco_turn.specs.View.{seen_in, own_in}
 use Rattle.eco_turn.specs.Rule.{maker_view, IsRuled}
 use Rattle.eco_turn.specs.Plays.{Took, right_view, joined_view, returned_of}
-use Rattle.eco_turn.specs.Pass.{IsOutside, IsPlaced, HasLeft, pass_seen, pass_own, AreAll}
+use Rattle.eco_turn.specs.Pass.{IsOutside, IsPlaced, HasLeft, pass_number, pass_seen, pass_own, AreAll}
 use Rattle.eco_turn.specs.Turn.{turn_id, turn_start, turn_passes, IsNew}
 use Rattle.eco_turn.specs.Joined.{IsKnown, IsIdle}
+use Rattle.eco_turn.proofs.Lists.{at_or, at_there, at_all, at_value}
 use Rattle.eco_turn.proofs.Ends.{Taken, ends_ok}
 
 module _ {E F : Type 0} where
@@ -88,16 +91,43 @@ module _ {E F : Type 0} where
   in_more p v w = ⊎_elim (λ t. inl t) (λ (t : (k : ℕ) × (q : Returned E) × (get_elem? v.returned k ≡ some q) × (q.number ≡ p.number) × (q.seen ≡ pass_seen p) × (q.own ≡ pass_own p)). inr (suc t.0, t.1, t.2, t.3, t.4, t.5))
 
 module _ {T E F : Type 0} (entries : T → List (ℕ × E)) (fixed : T → F) where
+  -- the value as it is taken out, where all passes were joined to the seat
   pub closes : (start : T) (most : ℕ) (ws : List ℕ) (xs : List (Option T)) (id : ℕ) (v : View E F) (ps : List (Pass E F)) → IsIdle v → AreAll most ps → ((k : ℕ) (p : Pass E F) → get_elem? ps k ≡ some p → IsKnown p v)
       → Final (Seen (IsRuled entries fixed start most) id v) ws xs → Taken entries fixed start most xs v
-  closes start most ws xs id v ps idle all known end = ends_ok entries fixed start most ws xs id v idle.0 idle.1 (λ n low high. let a = all n low high in let p = a.1 in
+  closes start most ws xs id v ps idle all known end = ends_ok entries fixed start most ws xs id v idle.0 idle.1 (λ n low high. let a = at_value pass_number ps n (all n (low, high)) in let p = a.1 in
       ⊎_elim (λ (t : (v.number ≡ p.number) × (v.seen ≡ pass_seen p) × (v.own ≡ pass_own p)). inl (sym a.3 ∙ sym t.0))
       (λ (t : (k : ℕ) × (q : Returned E) × (get_elem? v.returned k ≡ some q) × (q.number ≡ p.number) × (q.seen ≡ pass_seen p) × (q.own ≡ pass_own p)). inr (t.0, t.1, t.2, sym a.3 ∙ sym t.3))
       (known a.0 p a.2)) end
 
-  pub given : (start : T) (most : ℕ) (xs : List (Option T)) (v : View E F) (p : Pass E F) (x : T) (took : Taken entries fixed start most xs v) → took.value ≡ x → IsKnown p v → IsPrefix (pass_seen p) (entries x) × (entries_by p.number (entries x) ≡ pass_own p)
-  given start most xs v p x took is = subst (λ (y : T). IsKnown p v → IsPrefix (pass_seen p) (entries y) × (entries_by p.number (entries y) ≡ pass_own p)) is
-      (⊎_elim (λ (t : (v.number ≡ p.number) × (v.seen ≡ pass_seen p) × (v.own ≡ pass_own p)).
+  given : (start : T) (most : ℕ) (xs : List (Option T)) (v : View E F) (p : Pass E F) (took : Taken entries fixed start most xs v) → IsKnown p v → IsPrefix (pass_seen p) (entries took.value) × (entries_by p.number (entries took.value) ≡ pass_own p)
+  given start most xs v p took = ⊎_elim
+      (λ (t : (v.number ≡ p.number) × (v.seen ≡ pass_seen p) × (v.own ≡ pass_own p)).
       (subst (λ z. IsPrefix z (entries took.value)) t.1 took.seen, ap (λ n. entries_by n (entries took.value)) (sym t.0) ∙ (took.own ∙ t.2)))
       (λ (t : (k : ℕ) × (q : Returned E) × (get_elem? v.returned k ≡ some q) × (q.number ≡ p.number) × (q.seen ≡ pass_seen p) × (q.own ≡ pass_own p)). let e = took.each t.0 t.1 t.2 in
-      (subst (λ z. IsPrefix z (entries took.value)) t.4 e.0, ap (λ n. entries_by n (entries took.value)) (sym t.3) ∙ (e.1 ∙ t.5))))
+      (subst (λ z. IsPrefix z (entries took.value)) t.4 e.0, ap (λ n. entries_by n (entries took.value)) (sym t.3) ∙ (e.1 ∙ t.5)))
+
+  -- what a closed turn says of its last value
+  pub record IsLast (start : T) (most : ℕ) (ps : List (Pass E F)) (x : T) : Type 0 where
+    pub fixed_is : fixed x ≡ fixed start
+    pub seen : All (λ (p : Pass E F). IsPrefix (pass_seen p) (entries x)) ps
+    pub own : All (λ (p : Pass E F). entries_by (pass_number p) (entries x) ≡ pass_own p) ps
+    pub grown : Grows most (entries start) (entries x)
+
+  pub is_last : (start : T) (most : ℕ) (xs : List (Option T)) (v : View E F) (ps : List (Pass E F)) → ((k : ℕ) (p : Pass E F) → get_elem? ps k ≡ some p → IsKnown p v)
+      → Taken entries fixed start most xs v → (x : T) → get_elem? xs 0 ≡ some (Some x) → IsLast start most ps x
+  is_last start most xs v ps known took x there =
+      let e : Some took.value ≡ Some x = some-injective _ _ (sym took.lies ∙ there) in let same : took.value ≡ x = cc in
+      subst (IsLast start most ps) same record {
+        fixed_is = took.fixed_is;
+        seen = at_all (λ k p. IsPrefix (pass_seen p) (entries took.value)) ps (λ k p at. (given start most xs v p took (known k p at)).0);
+        own = at_all (λ k p. entries_by (pass_number p) (entries took.value) ≡ pass_own p) ps (λ k p at. (given start most xs v p took (known k p at)).1);
+        grown = took.grown;
+      }
+
+module _ {E F : Type 0} where
+  -- passes that are numbered by their places are all
+  pub all_numbered : (most : ℕ) (ps : List (Pass E F)) → length ps ≡ most → ((k : ℕ) (d : Pass E F) → k < length ps → pass_number (get_or ps k d) ≡ k + 1) → AreAll most ps
+  all_numbered most ps count each n pass =
+      let low = pass.0 in let high = pass.1 in let len = length-map ps pass_number in let t = at_there ps (n - 1) (omega arith) in
+      let number : pass_number t.0 ≡ n - 1 + 1 = ap pass_number (sym (at_or ps (n - 1) t.0 t.0 t.1)) ∙ each (n - 1) t.0 (omega arith) in
+      (n - 1, omega arith, at_or (map pass_number ps) (n - 1) (pass_number t.0) n (at_map pass_number ps (n - 1) t.0 t.1) ∙ (let z : n - 1 + 1 ≡ n = omega arith in number ∙ z))

@@ -1,7 +1,5 @@
 -- What clauses say of a pass.
-use Rattle.std.specs.Prelude.{◌≡◌, ℕ, ◌<◌, ◌≤◌, List, [], ◌∷◌, Some}
-use mathlib.Core.Option.{some}
-use lib.ListN.{get_elem?}
+use Rattle.std.specs.Prelude.{◌≡◌, ℕ, List, [], ◌∷◌, map, Contains, Some}
 use Rattle.atomic_table.specs.Seated.{TableId}
 use Rattle.eco_turn.specs.declared.view.View.{View}
 use Rattle.eco_turn.specs.declared.view.Stage.TheVariants.{Outside}
@@ -42,4 +40,4 @@ module _ {E F : Type 0} where
 
   -- each number from 1 to `most` is that of one of the passes
   abbrev pub AreAll : ℕ → List (Pass E F) → Type 0
-  AreAll most ps = (n : ℕ) → 0 < n → n ≤ most → (k : ℕ) × (p : Pass E F) × (get_elem? ps k ≡ some p) × (pass_number p ≡ n)
+  AreAll most ps = (n : ℕ) → IsPass most n → Contains (map pass_number ps) n

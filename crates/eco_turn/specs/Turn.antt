@@ -1,5 +1,5 @@
 -- What clauses say of a turn, and of a pass of it.
-use Rattle.std.specs.Prelude.{◌≡◌, ℕ, List, []}
+use Rattle.std.specs.Prelude.{◌≡◌, ℕ, ◌+◌, ◌<◌, List, [], length, slice_index_or}
 use Rattle.atomic_table.specs.Seated.{TableId}
 use Rattle.eco_turn.specs.declared.pass.Pass.{Pass}
 use Rattle.eco_turn.specs.declared.turn.Turn.{Turn}
@@ -28,3 +28,7 @@ module _ {T E F : Type 0} where
     pub number : pass_number p ≡ n
     pub seen : pass_seen p ≡ entries x
     pub own : pass_own p ≡ []
+
+  -- the passes of a new turn over the value x, in the order of their numbers
+  abbrev pub AreNew : (T → List (ℕ × E)) → (T → F) → Turn T E F → T → List (Pass E F) → Type 0
+  AreNew entries fixed t x ps = (k : ℕ) (d : Pass E F) → k < length ps → IsNew entries fixed t x (k + 1) (slice_index_or ps k d)

@@ -25,6 +25,8 @@ mod kept;
 mod memory;
 mod pass;
 mod plays;
+#[cfg(test)]
+mod tests;
 mod turn;
 mod view;
 

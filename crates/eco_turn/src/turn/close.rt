@@ -1,5 +1,5 @@
 //! Ending a turn.
-ghost use Rattle.std.specs.Prelude.{◌≡◌, ℕ, ◌<◌, [], vec_len};
+ghost use Rattle.std.specs.Prelude.{◌≡◌, ℕ, ◌<◌, [], All, vec_len};
 ghost use mathlib.Core.Option.{some};
 ghost use mathlib.Core.List.{IsPrefix};
 ghost use lib.ListN.{get_elem?};
@@ -19,11 +19,12 @@ impl<T: Kept> Turn<T> {
     /// Ends the turn, whose passes must all be given back, in any order, and gives the value back. It takes no memory.
     pub fn close(self, passes: Vec<Pass<T::Entry, T::Fixed>>) -> T
         requires all { AreAll (turn_passes self) passes.items }
-        requires each { (k : ℕ) (p : _) → get_elem? passes.items k ≡ some p → IsPassOf T.fixed self p × HasLeft p }
+        requires each { All (λ p. IsPassOf T.fixed self p × HasLeft p) passes.items }
         ensures fixed { T.fixed result ≡ T.fixed (turn_start self) }
 
         // The list begins with what each pass saw last, and the entries of each are its own, each once.
-        ensures each { (k : ℕ) (p : _) → get_elem? passes.items k ≡ some p → IsPrefix (pass_seen p) (T.entries result) × (entries_by (pass_number p) (T.entries result) ≡ pass_own p) }
+        ensures seen { All (λ p. IsPrefix (pass_seen p) (T.entries result)) passes.items }
+        ensures own { All (λ p. entries_by (pass_number p) (T.entries result) ≡ pass_own p) passes.items }
         ensures grown { Grows (turn_passes self) (T.entries (turn_start self)) (T.entries result) }
     {
         let seat = self.join_passes(passes);

@@ -4,7 +4,7 @@ ghost use mathlib.Core.Option.{some};
 ghost use lib.ListN.{get_elem?};
 ghost use Rattle.eco_turn.specs.Entries.{IsPass};
 ghost use Rattle.eco_turn.specs.Rule.{maker_view};
-ghost use Rattle.eco_turn.specs.Turn.{turn_id, turn_start, turn_passes, IsNew};
+ghost use Rattle.eco_turn.specs.Turn.{turn_id, turn_start, turn_passes, IsNew, AreNew};
 
 use super::Turn;
 use crate::kept::Kept;
@@ -26,8 +26,7 @@ impl<T: Kept> Turn<T> {
         requires passes { (0 < passes) × (passes ≤ 64) }
         requires none { All (λ e. ¬ IsPass passes e.0) (T.entries value) }
         ensures turn { IfOk result (λ r. (turn_start r.0 ≡ value) × (turn_passes r.0 ≡ passes)) }
-        ensures count { IfOk result (λ r. vec_len r.1 ≡ passes) }
-        ensures each { IfOk result (λ r. (k : ℕ) (p : _) → get_elem? r.1.items k ≡ some p → IsNew T.entries T.fixed r.0 value (k + 1) p) }
+        ensures passes { IfOk result (λ r. (vec_len r.1 ≡ passes) × AreNew T.entries T.fixed r.0 value r.1.items) }
         ensures back { IfErr result (λ e. e.0 ≡ value) }
     {
         let Ok(mut list) = Vec::with_capacity(alloc, passes as usize) else {
