@@ -5,4 +5,5 @@ pub mod Steps
 pub mod Splits
 pub mod Ends
 pub mod Passes
+pub mod Tickets
 pub mod Sent

@@ -21,7 +21,7 @@ has_ticket Outside h = absurd (omega arith)
 has_ticket Waiting h = absurd (omega arith)
 has_ticket Inside h = omega arith
 
-one_ticket : (s : Stage) → tickets s ≤ 1
+pub one_ticket : (s : Stage) → tickets s ≤ 1
 one_ticket Outside = omega arith
 one_ticket Waiting = omega arith
 one_ticket Inside = omega arith

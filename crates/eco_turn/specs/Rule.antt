@@ -1,5 +1,5 @@
 -- The rule of the table. Word 0 is the next ticket, word 1 the ticket that is served, word 2 the length of the history. The one slot has the value.
--- Tickets are counted since the turn was made, and the words have their remainders at 2 ^ 64. The tickets at hand are apart, lie from `served` up to but without `drawn`, and are as many as these numbers, so they are just these.
+-- Tickets are counted since the turn was made, and the words have their remainders at 2 ^ 64. The tickets at hand are apart, lie from `served` up to but without `drawn`, and are as many as these numbers. So each of these is at hand, as `at_hand` of proofs/Tickets.antt shows.
 use Rattle.std.specs.Prelude.{◌≡◌, ℕ, ◌+◌, ◌%◌, ◌^◌, ◌<◌, ◌≤◌, ◌⊎◌, List, [], map, length, slice_index, sum_by, Option, Some}
 use mathlib.Core.Option.{some}
 use mathlib.Core.List.{IsPrefix}

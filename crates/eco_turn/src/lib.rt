@@ -35,4 +35,3 @@ pub use kept::Kept;
 pub use memory::Memory;
 pub use pass::Pass;
 pub use turn::Turn;
-pub use view::{Returned, Stage, View};

@@ -8,7 +8,7 @@ use std::snapshot::Snapshot;
 
 /// The right to enter a turn. It knows the list that it saw when it last left, and the entries that it made.
 ///
-/// A thread may send it to another. One that is dropped leaves its turn open for good.
+/// A thread may send it to another. A turn that lost a pass can't be closed.
 #[derive(Drop)]
 pub struct Pass<E, F> {
     // Blank while the pass is inside.

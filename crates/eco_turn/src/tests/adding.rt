@@ -12,8 +12,12 @@ use std::thread::Threads;
 /// Adds a number, where there is memory for it.
 fn add<W: Wait>(rt: &W, turn: &Turn<Numbers>, pass: &mut Pass<u64, u64>, number: u64) -> bool
     requires { IsPassOf (λ n. n.label) turn.now pass.old × HasLeft pass.old }
-    ensures pass { IsPassOf (λ n. n.label) turn.now pass.new × HasLeft pass.new × (pass_number pass.new ≡ pass_number pass.old) }
-    ensures own { MatchBool result (pass_own pass.new ≡ pass_own pass.old ++ (pass_number pass.old, number) ∷ []) (pass_own pass.new ≡ pass_own pass.old) }
+    ensures pass { IsPassOf (λ n. n.label) turn.now pass.new × HasLeft pass.new }
+    ensures number { pass_number pass.new ≡ pass_number pass.old }
+    ensures own { MatchBool
+        result
+        (pass_own pass.new ≡ pass_own pass.old ++ (pass_number pass.old, number) ∷ [])
+        (pass_own pass.new ≡ pass_own pass.old) }
 {
     let mut held = turn.enter(rt, pass);
     let by = pass.number();
@@ -25,7 +29,8 @@ fn add<W: Wait>(rt: &W, turn: &Turn<Numbers>, pass: &mut Pass<u64, u64>, number:
 /// Adds the numbers below `end` in their order, up to the first for which there is no memory.
 fn add_below<W: Wait>(rt: &W, turn: &Turn<Numbers>, pass: &mut Pass<u64, u64>, end: u64)
     requires { IsPassOf (λ n. n.label) turn.now pass.old × HasLeft pass.old }
-    ensures { IsPassOf (λ n. n.label) turn.now pass.new × HasLeft pass.new × (pass_number pass.new ≡ pass_number pass.old) }
+    ensures pass { IsPassOf (λ n. n.label) turn.now pass.new × HasLeft pass.new }
+    ensures number { pass_number pass.new ≡ pass_number pass.old }
 {
     for number in 0..end {
         if !add(rt, turn, pass, number) {
@@ -42,7 +47,8 @@ fn finds<W: Wait>(
     want: &[(u32, u64)],
 ) -> bool
     requires { IsPassOf (λ n. n.label) turn.now pass.old × HasLeft pass.old }
-    ensures { IsPassOf (λ n. n.label) turn.now pass.new × HasLeft pass.new × (pass_number pass.new ≡ pass_number pass.old) }
+    ensures pass { IsPassOf (λ n. n.label) turn.now pass.new × HasLeft pass.new }
+    ensures number { pass_number pass.new ≡ pass_number pass.old }
 {
     let mut held = turn.enter(rt, pass);
     let found = held.get().items.as_slice() == want;
@@ -61,7 +67,9 @@ pub fn add_at<W: Wait>(
     requires passes { All (λ p. IsPassOf (λ n. n.label) turn.now p × HasLeft p) passes.old.items }
     ensures passes { All (λ p. IsPassOf (λ n. n.label) turn.now p × HasLeft p) passes.new.items }
     ensures count { vec_len passes.new ≡ vec_len passes.old }
-    ensures numbers { (k : ℕ) (d : _) → k < vec_len passes.old → pass_number (slice_index_or passes.new.items k d) ≡ pass_number (slice_index_or passes.old.items k d) }
+    ensures numbers { (k : ℕ) (d : _) → k < vec_len passes.old
+        → pass_number (slice_index_or passes.new.items k d)
+        ≡ pass_number (slice_index_or passes.old.items k d) }
 {
     add(rt, turn, &mut passes[at], number)
 }
@@ -77,7 +85,9 @@ pub fn finds_at<W: Wait>(
     requires passes { All (λ p. IsPassOf (λ n. n.label) turn.now p × HasLeft p) passes.old.items }
     ensures passes { All (λ p. IsPassOf (λ n. n.label) turn.now p × HasLeft p) passes.new.items }
     ensures count { vec_len passes.new ≡ vec_len passes.old }
-    ensures numbers { (k : ℕ) (d : _) → k < vec_len passes.old → pass_number (slice_index_or passes.new.items k d) ≡ pass_number (slice_index_or passes.old.items k d) }
+    ensures numbers { (k : ℕ) (d : _) → k < vec_len passes.old
+        → pass_number (slice_index_or passes.new.items k d)
+        ≡ pass_number (slice_index_or passes.old.items k d) }
 {
     finds(rt, turn, &mut passes[at], want)
 }
@@ -92,7 +102,9 @@ pub fn add_below_in_threads<W: Wait + Threads + Sync>(
     requires { All (λ p. IsPassOf (λ n. n.label) turn.now p × HasLeft p) passes.old }
     ensures passes { All (λ p. IsPassOf (λ n. n.label) turn.now p × HasLeft p) passes.new }
     ensures count { length passes.new ≡ length passes.old }
-    ensures numbers { (k : ℕ) (d : _) → k < length passes.old → pass_number (slice_index_or passes.new k d) ≡ pass_number (slice_index_or passes.old k d) }
+    ensures numbers { (k : ℕ) (d : _) → k < length passes.old
+        → pass_number (slice_index_or passes.new k d)
+        ≡ pass_number (slice_index_or passes.old k d) }
 {
     if passes.is_empty() {
         return;

@@ -37,7 +37,10 @@ impl Numbers {
 
     /// Whether there was memory for it.
     pub fn add(&mut self, pass: u32, number: u64) -> bool
-        ensures items { MatchBool result (self.new.items.items ≡ self.old.items.items ++ (pass, number) ∷ []) (self.new.items.items ≡ self.old.items.items) }
+        ensures items { MatchBool
+            result
+            (self.new.items.items ≡ self.old.items.items ++ (pass, number) ∷ [])
+            (self.new.items.items ≡ self.old.items.items) }
         ensures label { self.new.label ≡ self.old.label }
     {
         self.items.push((pass, number)).is_ok()

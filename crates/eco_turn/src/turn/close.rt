@@ -42,7 +42,8 @@ impl<T: Kept> Turn<T> {
         mut passes: Vec<Pass<T::Entry, T::Fixed>>,
     ) -> Seat<Option<T>, View<T::Entry, T::Fixed>>
         requires some { 0 < vec_len passes }
-        requires each { (k : ℕ) (p : _) → get_elem? passes.items k ≡ some p → IsPassOf T.fixed self.now p × HasLeft p }
+        requires each { (k : ℕ) (p : _) → get_elem? passes.items k ≡ some p
+            → IsPassOf T.fixed self.now p × HasLeft p }
         ensures seat { (result.table_id ≡ turn_id self.now) × (result.me.1 ≡ []) × IsIdle result.me.0 }
         ensures each { (k : ℕ) (p : _) → get_elem? passes.items k ≡ some p → IsKnown p result.me.0 }
     {

@@ -34,7 +34,8 @@ impl<T: Kept> Turn<T> {
         ticket: u64,
     )
         requires seat { (seat.old.table_id ≡ turn_id self.now) × (seat.old.me.1 ≡ []) }
-        requires waits { (seat.old.me.0.stage ≡ Waiting) × (0 < seat.old.me.0.number) × (seat.old.me.0.ticket % 2 ^ 64 ≡ ticket) }
+        requires waits { (seat.old.me.0.stage ≡ Waiting) × (0 < seat.old.me.0.number) }
+        requires ticket { seat.old.me.0.ticket % 2 ^ 64 ≡ ticket }
         ensures seat { seat.new.table_id ≡ seat.old.table_id }
         ensures took { (x : T) × Took T.entries T.fixed seat.old.me x seat.new.me }
     {
@@ -57,11 +58,13 @@ impl<T: Kept> Turn<T> {
     /// Waits for the pass's turn, and takes the value.
     pub fn enter<W: Wait>(&self, rt: &W, pass: &mut Pass<T::Entry, T::Fixed>) -> Held<'_, T>
         requires pass { IsPassOf T.fixed self.now pass.old × HasLeft pass.old }
-        ensures pass { IsPassOf T.fixed self.now pass.new × (pass_number pass.new ≡ pass_number pass.old) × (pass_seen pass.new ≡ pass_seen pass.old) × (pass_own pass.new ≡ pass_own pass.old) }
+        ensures pass { IsPassOf T.fixed self.now pass.new × (pass_number pass.new ≡ pass_number pass.old) }
+        ensures knows { (pass_seen pass.new ≡ pass_seen pass.old) × (pass_own pass.new ≡ pass_own pass.old) }
         ensures inside { IsInside T.fixed result pass.new × (held_turn result ≡ self.now) }
 
         // The list found begins with what the pass saw last, and the pass's own entries stand in it, each once.
-        ensures found { (T.entries (held_value result) ≡ found_entries result) × IsPrefix (pass_seen pass.old) (found_entries result) }
+        ensures found { T.entries (held_value result) ≡ found_entries result }
+        ensures begins { IsPrefix (pass_seen pass.old) (found_entries result) }
         ensures own { entries_by (pass_number pass.old) (found_entries result) ≡ pass_own pass.old }
         ensures fixed { T.fixed (held_value result) ≡ T.fixed (turn_start self.now) }
     {
@@ -83,9 +86,14 @@ impl<T: Kept> Turn<T> {
         requires pass { IsPassOf T.fixed (held_turn held) pass.old × IsInside T.fixed held pass.old }
         requires adds { Adds (pass_number pass.old) (found_entries held) (T.entries (held_value held)) }
         requires fixed { T.fixed (held_value held) ≡ T.fixed (turn_start (held_turn held)) }
-        ensures pass { IsPassOf T.fixed (held_turn held.entry) pass.new × HasLeft pass.new × (pass_number pass.new ≡ pass_number pass.old) }
-        ensures seen { (pass_seen pass.new ≡ T.entries (held_value held.entry)) × IsPrefix (found_entries held.entry) (pass_seen pass.new) }
-        ensures own { pass_own pass.new ≡ pass_own pass.old ++ drop (length (found_entries held.entry)) (T.entries (held_value held.entry)) }
+        ensures pass { IsPassOf T.fixed (held_turn held.entry) pass.new
+            × HasLeft pass.new
+            × (pass_number pass.new ≡ pass_number pass.old) }
+        ensures seen { pass_seen pass.new ≡ T.entries (held_value held.entry) }
+        ensures begins { IsPrefix (found_entries held.entry) (pass_seen pass.new) }
+        ensures own { pass_own pass.new
+            ≡ pass_own pass.old
+            ++ drop (length (found_entries held.entry)) (T.entries (held_value held.entry)) }
     {
         let Held {
             turn,

@@ -26,7 +26,8 @@ impl<T: Kept> Turn<T> {
         requires passes { (0 < passes) × (passes ≤ 64) }
         requires none { All (λ e. ¬ IsPass passes e.0) (T.entries value) }
         ensures turn { IfOk result (λ r. (turn_start r.0 ≡ value) × (turn_passes r.0 ≡ passes)) }
-        ensures passes { IfOk result (λ r. (vec_len r.1 ≡ passes) × AreNew T.entries T.fixed r.0 value r.1.items) }
+        ensures count { IfOk result (λ r. vec_len r.1 ≡ passes) }
+        ensures passes { IfOk result (λ r. AreNew T.entries T.fixed r.0 value r.1.items) }
         ensures back { IfErr result (λ e. e.0 ≡ value) }
     {
         let Ok(mut list) = Vec::with_capacity(alloc, passes as usize) else {
@@ -56,7 +57,10 @@ impl<T: Kept> Turn<T> {
         requires none { All (λ e. ¬ IsPass passes e.0) (T.entries value) }
         requires length { length ≡ Rattle.std.specs.Prelude.length (T.entries value) }
         ensures turn { IfOk result (λ r. (turn_start r.0 ≡ value) × (turn_passes r.0 ≡ passes)) }
-        ensures seat { IfOk result (λ r. (r.1.table_id ≡ turn_id r.0) × (r.1.me ≡ (maker_view (T.entries value) (T.fixed value), []))) }
+        ensures seat { IfOk
+            result
+            (λ r. (r.1.table_id ≡ turn_id r.0)
+            × (r.1.me ≡ (maker_view (T.entries value) (T.fixed value), []))) }
         ensures back { IfErr result (λ v. v ≡ value) }
     {
         let start = Start {
@@ -85,11 +89,14 @@ impl<T: Kept> Turn<T> {
         passes: u32,
         length: u64,
     )
-        requires seat { (seat.table_id ≡ turn_id self.now) × (seat.me ≡ (maker_view (T.entries (turn_start self.now)) (T.fixed (turn_start self.now)), [])) }
-        requires counts { (turn_passes self.now ≡ passes) × (length ≡ Rattle.std.specs.Prelude.length (T.entries (turn_start self.now))) }
+        requires table { seat.table_id ≡ turn_id self.now }
+        requires seat { seat.me ≡ (maker_view (T.entries (turn_start self.now)) (T.fixed (turn_start self.now)), []) }
+        requires count { turn_passes self.now ≡ passes }
+        requires length { length ≡ Rattle.std.specs.Prelude.length (T.entries (turn_start self.now)) }
         requires room { (list.old.items ≡ []) × (passes ≤ vec_capacity list.old) }
         ensures count { vec_len list.new ≡ passes }
-        ensures each { (k : ℕ) (p : _) → get_elem? list.new.items k ≡ some p → IsNew T.entries T.fixed self.now (turn_start self.now) (k + 1) p }
+        ensures each { (k : ℕ) (p : _) → get_elem? list.new.items k ≡ some p
+            → IsNew T.entries T.fixed self.now (turn_start self.now) (k + 1) p }
     {
         for made in 0..passes {
             let new = self.table.shared.split_seat::<SplitOff>(&mut seat);

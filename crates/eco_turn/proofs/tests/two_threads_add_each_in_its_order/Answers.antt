@@ -12,12 +12,12 @@ whole n xs ys len = ap (λ k. take k (ys ++ drop (length ys) xs)) len ∙ take-a
 
 pub close-numbers-requires-clause-all : goal.close-numbers-requires-clause-all
 close-numbers-requires-clause-all g c =
-    let new = c.in-Ok.ensures in let a = c.add_below_in_threads.ensures in let lent = c.as_mut_slice.ensures.value in let count = new.passes.0 in let most = new.turn.1 in let same = a.count in
+    let new = c.in-Ok.ensures in let a = c.add_below_in_threads.ensures in let lent = c.as_mut_slice.ensures.value in let count = new.count in let most = new.turn.1 in let same = a.count in
     let e = whole c.in-Ok.passes.len c.in-Ok.passes.items c.add_below_in_threads.new.passes (omega arith) in
-    subst (AreAll _) (sym e) (all_numbered _ c.add_below_in_threads.new.passes (omega arith) (λ k d low. a.numbers k d (omega arith) ∙ (ap (λ ps. pass_number (get_or ps k d)) lent ∙ (new.passes.1 k d (omega arith)).number)))
+    subst (AreAll _) (sym e) (all_numbered _ c.add_below_in_threads.new.passes (omega arith) (λ k d low. a.numbers k d (omega arith) ∙ (ap (λ ps. pass_number (get_or ps k d)) lent ∙ (new.passes k d (omega arith)).number)))
 
 pub close-numbers-requires-clause-each : goal.close-numbers-requires-clause-each
 close-numbers-requires-clause-each g c =
-    let new = c.in-Ok.ensures in let a = c.add_below_in_threads.ensures in let lent = c.as_mut_slice.ensures.value in let count = new.passes.0 in let same = a.count in
+    let new = c.in-Ok.ensures in let a = c.add_below_in_threads.ensures in let lent = c.as_mut_slice.ensures.value in let count = new.count in let same = a.count in
     let e = whole c.in-Ok.passes.len c.in-Ok.passes.items c.add_below_in_threads.new.passes (omega arith) in
     subst (All (λ p. IsPassOf (λ n. n.label) c.in-Ok.turn p × HasLeft p)) (sym e) a.passes
