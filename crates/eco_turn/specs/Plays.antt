@@ -10,7 +10,8 @@ use Rattle.eco_turn.specs.Entries.{entries_by}
 module _ {E F : Type 0} where
   -- the seat has a ticket, whose remainder is the number found
   abbrev pub Draws : {S : Type 0} → Step S → Me S (View E F) → ℕ → Me S (View E F) → Type 0
-  Draws st m found m' = (m' ≡ (record m.0 { stage = Waiting; ticket = m'.0.ticket }, m.1)) × (m'.0.ticket % 2 ^ 64 ≡ found)
+  Draws st m found m' = (m' ≡ (record m.0 { stage = Waiting; ticket = m'.0.ticket }, m.1))
+      × (m'.0.ticket % 2 ^ 64 ≡ found)
 
   -- the seat has neither ticket nor slot
   abbrev pub PassesOn : {S : Type 0} → Step S → Me S (View E F) → ℕ → Me S (View E F) → Type 0
@@ -43,7 +44,8 @@ module _ {T E F : Type 0} (entries : T → List (ℕ × E)) (fixed : T → F) wh
 
   -- where the number found is the seat's ticket, it has the slot, and else nothing changes
   abbrev pub Looks : Step (Option T) → Me (Option T) (View E F) → ℕ → Me (Option T) (View E F) → Type 0
-  Looks st m found m' = (found ≢ m.0.ticket % 2 ^ 64 → m' ≡ m) × (found ≡ m.0.ticket % 2 ^ 64 → (x : T) × Took m x m')
+  Looks st m found m' = (found ≢ m.0.ticket % 2 ^ 64 → m' ≡ m)
+      × (found ≡ m.0.ticket % 2 ^ 64 → (x : T) × Took m x m')
 
 module _ {T E F : Type 0} (entries : T → List (ℕ × E)) where
   -- what was added to the list is the seat's own
@@ -52,4 +54,5 @@ module _ {T E F : Type 0} (entries : T → List (ℕ × E)) where
 
   -- the number found is the length of the list that the seat had found, and the list of the value in its slot is the history
   abbrev pub Notes : Step (Option T) → Me (Option T) (View E F) → ℕ → Me (Option T) (View E F) → Type 0
-  Notes st m found m' = (found ≡ length m.0.seen) × ((y : T) → m.1 ≡ (0, Some y) ∷ [] → m' ≡ (noted_view m.0 y, m.1))
+  Notes st m found m' = (found ≡ length m.0.seen)
+      × ((y : T) → m.1 ≡ (0, Some y) ∷ [] → m' ≡ (noted_view m.0 y, m.1))

@@ -1,4 +1,5 @@
--- The rule of the table. Word 0 is the next ticket, word 1 the ticket that is served, word 2 the length of the history. The one slot has the value.
+-- The rule of the table.
+-- Word 0 is the next ticket, word 1 the ticket that is served, word 2 the length of the history. The one slot has the value.
 -- Tickets are counted since the turn was made, and the words have their remainders at 2 ^ 64. The tickets at hand are apart, lie from `served` up to but without `drawn`, and are as many as these numbers. So each of these is at hand, as `at_hand` of proofs/Tickets.antt shows.
 use Rattle.std.specs.Prelude.{◌≡◌, ℕ, ◌+◌, ◌%◌, ◌^◌, ◌<◌, ◌≤◌, ◌⊎◌, List, [], map, length, slice_index, sum_by, Option, Some}
 use mathlib.Core.Option.{some}
@@ -34,15 +35,18 @@ module _ {E F : Type 0} where
 
 -- no two seats have one ticket
 abbrev pub AreApart : {E F : Type 0} → List (View E F) → Type 0
-AreApart {E} {F} vs = (i j : ℕ) (v w : View E F) → get_elem? vs i ≡ some v → get_elem? vs j ≡ some w → 0 < ticket_count v → 0 < ticket_count w → v.ticket ≡ w.ticket → i ≡ j
+AreApart {E} {F} vs = (i j : ℕ) (v w : View E F) → get_elem? vs i ≡ some v → get_elem? vs j ≡ some w
+    → 0 < ticket_count v → 0 < ticket_count w → v.ticket ≡ w.ticket → i ≡ j
 
 module _ {T E F : Type 0} (entries : T → List (ℕ × E)) (fixed : T → F) where
   -- the value is at home and stands for the history, or a seat has it
   abbrev pub IsHomeOrHeld : F → List (ℕ × E) → State (Option T) (View E F) → Type 0
-  IsHomeOrHeld f history s = ((x : T) × (get_elem? s.homes 0 ≡ some (some (Some x))) × (entries x ≡ history) × (fixed x ≡ f)) ⊎ ((j : ℕ) × (get_elem? (map stage_of s.views) j ≡ some Inside))
+  IsHomeOrHeld f history s = ((x : T) × (get_elem? s.homes 0 ≡ some (some (Some x))) × (entries x ≡ history) × (fixed x ≡ f))
+      ⊎ ((j : ℕ) × (get_elem? (map stage_of s.views) j ≡ some Inside))
 
   -- the rule of a turn over the value `start`
   pub record IsRuled (start : T) (passes : ℕ) (s : State (Option T) (View E F)) : Type 0 where
+    -- the history, the ticket that is served, and the next one
     pub history : List (ℕ × E)
     pub served : ℕ
     pub drawn : ℕ
@@ -55,6 +59,7 @@ module _ {T E F : Type 0} (entries : T → List (ℕ × E)) (fixed : T → F) wh
     pub each : (j : ℕ) (v : View E F) → get_elem? s.views j ≡ some v → IsSeated (fixed start) history (map number_of s.views) served drawn j v
     pub apart : AreApart s.views
     pub counted : served + sum_by ticket_count s.views ≡ drawn
+    -- the history is the first list, with entries of passes, and a pass that isn't made yet has none
     pub grown : Grows passes (entries start) history
     pub unmade : (n : ℕ) → length s.views ≤ n → n ≤ passes → entries_by n history ≡ []
     pub lies : IsHomeOrHeld (fixed start) history s
