@@ -1,0 +1,9 @@
+pub mod Entries
+pub mod View
+pub mod Rule
+pub mod Plays
+pub mod Pass
+pub mod Turn
+pub mod Held
+pub mod Lending
+pub mod Joined
