@@ -1,2 +1,4 @@
 pub mod Stretches
 pub mod Editing
+mod Moves
+pub mod Issuing

@@ -3,3 +3,4 @@ pub mod Changes
 pub mod Issued
 pub mod Overlays
 pub mod Moving
+pub mod PinMoves

@@ -22,12 +22,16 @@ abbrev pub Rises : ℕ → ℕ → List Stretch → Type 0
 Rises lo hi [] = lo ≡ hi
 Rises lo hi (s ∷ ss) = (lo ≤ s.upto) × Rises s.upto hi ss
 
--- the edit of a statement where one pin is put on its net: none where nothing changes
+-- a statement of NETS where one pin is put on its net, and comes new or not
+abbrev pub moved_text : List ℕ → NewJoint → Bool → said.Net → List ℕ
+moved_text text n comes s = statement_text text (stays_on (n ∷ []) s.name.bytes) (if comes then pin_of n ∷ [] else []) false s
+
+-- The edit of a statement of NETS where one pin is put on its net: none where nothing changes. The pin comes new to its net where it doesn't stand there.
 abbrev pub move_edits : List ℕ → NewJoint → Bool → said.Net → List Edit
 move_edits text n stands s =
   let comes = not stands && bytes_eq s.name.bytes n.net in
   if list_all (λ j. stays_on (n ∷ []) s.name.bytes (joint_names j)) s.joints && not comes then []
-  else record { start = s.start; end = s.end; bytes = statement_text text (stays_on (n ∷ []) s.name.bytes) (if comes then pin_of n ∷ [] else []) false s } ∷ []
+  else record { start = s.start; end = s.end; bytes = moved_text text n comes s } ∷ []
 
 -- the overlay was made for the text and its design
 abbrev pub IsMadeFor : List ℕ → Design → List Edit → Type 0

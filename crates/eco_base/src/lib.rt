@@ -1,11 +1,15 @@
 //! Designs with some pins on other nets, and their texts.
 #![tactic(auto)]
 
+mod bytes;
 mod fault;
+mod moving;
 mod overlay;
+mod pin_move;
 mod stretch;
 mod writer;
 
 pub use crate::fault::MoveFault;
+pub use crate::moving::move_joint;
 pub use crate::overlay::Overlay;
 pub use crate::writer::{emit, emit_len};

@@ -1,0 +1,47 @@
+use Rattle.std.proofs.Common.{◌≡◌, ◌++◌, ◌∷◌, [], true, false, Result, Ok, Err, IfOk, ap, sym, ◌∙◌}
+use Rattle.eco_def.specs.View.{design_in}
+use Rattle.eco_def.specs.Named.{names_of}
+use Rattle.eco_base.specs.Changes.{NewJoint, stands}
+use Rattle.eco_base.specs.Moving.{has_comp, has_net}
+use Rattle.eco_base.proofs.Moves.{has_comp_is, has_net_is, all_stands_is, no_comp, not_on_net, no_net, no_fault}
+use Rattle.eco_base.proofs.Issuing.{moved_overlay}
+use Rattle.eco_base.proofs.moving.move_joint.Goals as goal
+
+pub returns-then-not-knows_comp : goal.returns-then-not-knows_comp
+returns-then-not-knows_comp c =
+  let text = c.args.text.now in
+  let d = c.args.design.now in
+  no_comp (names_of (design_in text d)) c.args.comp.now c.args.pin.now c.args.from.now c.args.to.now
+    (has_comp_is text c.args.comp.now d ∙ sym (rw c.as_slice.ensures at c.knows_comp.ensures) ∙ c.if-not-knows_comp.true)
+
+pub returns-then-not-stands : goal.returns-then-not-stands
+returns-then-not-stands c =
+  let text = c.args.text.now in
+  let d = c.args.design.now in
+  let n : NewJoint = record { comp = c.args.comp.now; pin = c.args.pin.now; net = c.args.from.now } in
+  not_on_net (names_of (design_in text d)) c.args.comp.now c.args.pin.now c.args.from.now c.args.to.now
+    (has_comp_is text c.args.comp.now d ∙ sym (rw c.as_slice.ensures at c.knows_comp.ensures) ∙ c.if-not-knows_comp.false)
+    (all_stands_is text n d c.requires.lies.ordinary ∙ sym (rw c.as_slice-nets.ensures at c.stands.ensures) ∙ c.if-not-stands.true)
+
+pub returns-then-not-knows_net : goal.returns-then-not-knows_net
+returns-then-not-knows_net c =
+  let text = c.args.text.now in
+  let d = c.args.design.now in
+  let n : NewJoint = record { comp = c.args.comp.now; pin = c.args.pin.now; net = c.args.from.now } in
+  no_net (names_of (design_in text d)) c.args.comp.now c.args.pin.now c.args.from.now c.args.to.now
+    (has_comp_is text c.args.comp.now d ∙ sym (rw c.as_slice.ensures at c.knows_comp.ensures) ∙ c.if-not-knows_comp.false)
+    (all_stands_is text n d c.requires.lies.ordinary ∙ sym (rw c.as_slice-nets.ensures at c.stands.ensures) ∙ c.if-not-stands.false)
+    (has_net_is text c.args.to.now d c.requires.lies.ordinary c.requires.lies.no_pins ∙ sym (rw c.as_slice-nets.ensures at c.knows_net.ensures) ∙ c.if-not-knows_net.true)
+
+pub returns : goal.returns
+returns c =
+  let text = c.args.text.now in
+  let d = c.args.design.now in
+  let n : NewJoint = record { comp = c.args.comp.now; pin = c.args.pin.now; net = c.args.from.now } in
+  let m : NewJoint = record { comp = c.args.comp.now; pin = c.args.pin.now; net = c.args.to.now } in
+  ( no_fault (names_of (design_in text d)) c.args.comp.now c.args.pin.now c.args.from.now c.args.to.now
+      (has_comp_is text c.args.comp.now d ∙ sym (rw c.as_slice.ensures at c.knows_comp.ensures) ∙ c.if-not-knows_comp.false)
+      (all_stands_is text n d c.requires.lies.ordinary ∙ sym (rw c.as_slice-nets.ensures at c.stands.ensures) ∙ c.if-not-stands.false)
+      (has_net_is text c.args.to.now d c.requires.lies.ordinary c.requires.lies.no_pins ∙ sym (rw c.as_slice-nets.ensures at c.knows_net.ensures) ∙ c.if-not-knows_net.false)
+  , moved_overlay text d m _ c.requires.lies (rw c.as_slice-nets.ensures at c.in_ok-overlay_of.ensures)
+  )

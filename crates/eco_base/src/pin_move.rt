@@ -1,0 +1,9 @@
+//! One pin on its new net.
+
+/// A pin of a component, and the net that it is put on.
+#[derive(Clone, Copy, Drop)]
+pub struct PinMove<'a> {
+    pub comp: &'a [u8],
+    pub pin: &'a [u8],
+    pub net: &'a [u8],
+}
