@@ -13,3 +13,6 @@ pub use crate::fault::MoveFault;
 pub use crate::moving::move_joint;
 pub use crate::overlay::Overlay;
 pub use crate::writer::{emit, emit_len};
+
+#[cfg(test)]
+mod tests;

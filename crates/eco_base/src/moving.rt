@@ -9,7 +9,7 @@ ghost use Rattle.eco_def.specs.Sections.{IsReadingOf};
 ghost use Rattle.eco_base.specs.Printing.{spaced};
 ghost use Rattle.eco_base.specs.Changes.{is_no_component as no_component, is_of as of_pin, stays_on, pin_of};
 ghost use Rattle.eco_base.specs.Issued.{Edit, kept_text, joint_words, tail_text};
-ghost use Rattle.eco_base.specs.Overlays.{moved_text, move_edits};
+ghost use Rattle.eco_base.specs.Overlays.{moved_text, move_edits, IsMadeFor};
 ghost use Rattle.eco_base.specs.Moving.{Moves};
 ghost use Rattle.eco_base.specs.PinMoves.{new_joint, word_bytes, names_in, stands_in, names_net, names_comp};
 
@@ -223,7 +223,8 @@ pub fn move_joint(
     to: &[u8],
 ) -> Result<Overlay, MoveFault>
     requires { IsReadingOf text.now design.now }
-    ensures { Moves text.now (design_in text.now design.now) comp.now pin.now from.now to.now result }
+    ensures moves { Moves text.now (design_in text.now design.now) comp.now pin.now from.now to.now result }
+    ensures made { IfOk result (IsMadeFor text.now design.now) }
 {
     let nets = design.nets.as_slice();
     if !knows_comp(text, design.comps.as_slice(), comp) {

@@ -1,11 +1,10 @@
 -- Texts and their first faults, by computing the definitions.
 use Rattle.std.proofs.Common.{◌≡◌, ℕ, List, ◌++◌, Result, Ok, Err, refl, codes}
-use Rattle.eco_text.specs.Words.{walk_of}
 use Rattle.eco_def.specs.Design.{Design}
 use Rattle.eco_def.specs.Grammar.{parts, design_of, place, some_place, comp_clause, comp_place, comp_new, section_head, section_end, comp_section, joint_end, joint, some_use, net_clause_new, net_tail, net_new, special_section, net_section, units, part_new}
 use Rattle.eco_def.specs.declared.first_fault.FirstFault.{FirstFault}
 use Rattle.eco_def.specs.declared.first_fault.FirstFault.TheVariants.{OpenQuote, Unended, BadStatement, TwiceNamed, MustJoin, UnknownHeading, Missing}
-use Rattle.eco_def.specs.declared.first_fault.Section.TheVariants.{Units as NoUnits, Components as NoComponents, Nets as NoNets}
+use Rattle.eco_def.specs.declared.first_fault.Section.TheVariants.{Units as NoUnits, Nets as NoNets}
 
 abbrev IsFault : Result Design FirstFault → FirstFault → Type 0
 IsFault (Ok d) f = ⊥

@@ -1,12 +1,12 @@
 -- A text of the first form is read by the whole grammar too.
-use Rattle.std.proofs.Common.{◌≡◌, ℕ, zero, suc, Bool, true, false, List, [], ◌∷◌, ◌++◌, Result, Ok, Err, refl, ap, sym, ◌∙◌, codes, not, if◌then◌else◌}
+use Rattle.std.proofs.Common.{◌≡◌, ℕ, zero, suc, Bool, true, false, List, [], ◌∷◌, ◌++◌, Result, Ok, Err, refl, ap, ◌∙◌, codes, not, if◌then◌else◌}
 use Rattle.eco_text.specs.Words.{Token, Walk, finished, open_quote, word_then, walk_of}
 use Rattle.eco_def.specs.declared.first_fault.FirstFault.{FirstFault}
 use Rattle.eco_def.specs.declared.first_fault.FirstFault.TheVariants.{UnknownHeading}
-use Rattle.eco_def.specs.Parsing.{Parser, ◌>>=◌, then_read, give, begins, refuse, choose, is_word, many, many_for, size}
+use Rattle.eco_def.specs.Parsing.{Parser, ◌>>=◌, then_read, give, begins, refuse, is_word, many, many_for, size}
 use Rattle.eco_def.specs.Design.{Part, Design}
-use Rattle.eco_def.specs.Grammar.{Kind, have, part, part_new, parts, end_design, design_read, design_of}
-use Rattle.eco_def.specs.FirstForm.{is_first_heading, first_part, first_part_new, first_parts, first_design_of, FirstFormReads}
+use Rattle.eco_def.specs.Grammar.{have, part, part_new, parts, end_design, design_read}
+use Rattle.eco_def.specs.FirstForm.{is_first_heading, first_part, first_parts, FirstFormReads}
 
 -- the second reads whatever the first reads
 abbrev Covers : {A : Type 0} → Parser A → Parser A → Type 0
@@ -40,7 +40,7 @@ covers_many A goes p q covers (suc n) xs u r is = go (begins goes u) (λ a. cove
 covers_parts : Covers first_parts parts
 unfolding parts
 covers_parts u r is =
-  covers_then (many (λ w. not (is_word (codes "END") w)) first_part u) (many (λ w. not (is_word (codes "END") w)) part u) (λ ps. end_design >>= λ end. give ps) (λ ps. end_design >>= λ end. give ps) r
+    covers_then (many (λ w. not (is_word (codes "END") w)) first_part u) (many (λ w. not (is_word (codes "END") w)) part u) (λ ps. end_design >>= λ end. give ps) (λ ps. end_design >>= λ end. give ps) r
     (λ a h. covers_many Part (λ w. not (is_word (codes "END") w)) first_part part covers_part (suc (size u)) [] u a h) (λ a v s h. h) is
 
 covers_design : (x y : Result (List Part × Walk) FirstFault) (d : Design) → ((a : List Part × Walk) → x ≡ Ok a → y ≡ Ok a) → design_read x ≡ Ok d → design_read y ≡ Ok d

@@ -1,13 +1,11 @@
 -- What stands under a heading.
 use Rattle.std.specs.Str.{bytes_eq}
-use Rattle.std.specs.List.{list_any}
-use Rattle.std.proofs.Common.{◌≡◌, ℕ, Bool, true, false, not, ◌&&◌, ◌||◌, ◌⊎◌, inl, inr, List, [], ◌∷◌, Result, Ok, Err, refl, ap, sym, subst, ◌∙◌, codes, if◌then◌else◌}
+use Rattle.std.proofs.Common.{◌≡◌, ℕ, Bool, true, false, not, ◌&&◌, ◌||◌, ◌⊎◌, inl, inr, List, Result, refl, ap, subst, ◌∙◌, codes, if◌then◌else◌}
 use Rattle.std.proofs.lemmas.Slice.Eq.{bytes_eq-Decides}
 use Rattle.eco_text.specs.Words.{Token, Walk, finished, open_quote, word_then}
 use Rattle.eco_def.specs.declared.first_fault.FirstFault.{FirstFault}
 use Rattle.eco_def.specs.declared.first_fault.FirstFault.TheVariants.{TwiceNamed}
 use Rattle.eco_def.specs.Parsing.{Parser, begins, refuse, is_word}
-use Rattle.eco_def.specs.Design.{Part}
 use Rattle.eco_def.specs.Grammar.{is_one_of, Kind, CompKind, NetKind, units, comp_section, net_section, passed_up_to, part_new}
 use Rattle.eco_def.specs.FirstForm.{is_first_heading, first_statements, first_part_new}
 use Rattle.eco_def.specs.Reading.{Reading, left, Reads, Gives}
@@ -35,10 +33,10 @@ not_true false is = refl
 -- the word that a test found
 pub found : (k : List ℕ) (w : Token) → is_word k w ≡ true → w ≡ record { bytes = k; quoted = false; start = w.start; end = w.end }
 found k w is =
-  let quiet : w.quoted ≡ false = not_true w.quoted (and_left (not w.quoted) (bytes_eq w.bytes k) is) in
-  let same : w.bytes ≡ k = (bytes_eq-Decides w.bytes k).0 (and_right (not w.quoted) (bytes_eq w.bytes k) is) in
-  ap (λ b. let t : Token = record { bytes = b; quoted = w.quoted; start = w.start; end = w.end } in t) same
-  ∙ ap (λ q. let t : Token = record { bytes = k; quoted = q; start = w.start; end = w.end } in t) quiet
+    let quiet : w.quoted ≡ false = not_true w.quoted (and_left (not w.quoted) (bytes_eq w.bytes k) is) in
+    let same : w.bytes ≡ k = (bytes_eq-Decides w.bytes k).0 (and_right (not w.quoted) (bytes_eq w.bytes k) is) in
+    ap (λ b. let t : Token = record { bytes = b; quoted = w.quoted; start = w.start; end = w.end } in t) same
+    ∙ ap (λ q. let t : Token = record { bytes = k; quoted = q; start = w.start; end = w.end } in t) quiet
 
 pub units_part : (seen : Kind → Bool) (u : Walk) → begins is_first_heading u ≡ true → begins (is_word (codes "UNITS")) u ≡ true → units u ≡ first_part_new seen u
 unfolding part_new
@@ -59,22 +57,22 @@ nets_part seen (word_then w v) first is = rw (found (codes "NETS") w is) refl
 statements : (seen : Kind → Bool) (w : Token) (v : Walk) → is_one_of first_statements w ≡ true → passed_up_to (codes ";") (word_then w v) ≡ first_part_new seen (word_then w v)
 unfolding part_new
 statements seen w v is =
-  elim (or_elim (is_word (codes "VERSION") w) _ is) [
-    inl h ↦ rw (found (codes "VERSION") w h) refl
-  | inr k ↦ elim (or_elim (is_word (codes "DESIGN") w) _ k) [
-      inl h ↦ rw (found (codes "DESIGN") w h) refl
-    | inr k ↦ elim (or_elim (is_word (codes "DIVIDERCHAR") w) _ k) [
-        inl h ↦ rw (found (codes "DIVIDERCHAR") w h) refl
-      | inr k ↦ elim (or_elim (is_word (codes "BUSBITCHARS") w) _ k) [
-          inl h ↦ rw (found (codes "BUSBITCHARS") w h) refl
-        | inr k ↦ elim (or_elim (is_word (codes "DIEAREA") w) _ k) [
-            inl h ↦ rw (found (codes "DIEAREA") w h) refl
-          | inr k ↦ cc
+    elim (or_elim (is_word (codes "VERSION") w) _ is) [
+      | inl h ↦ rw (found (codes "VERSION") w h) refl
+      | inr k ↦ elim (or_elim (is_word (codes "DESIGN") w) _ k) [
+        | inl h ↦ rw (found (codes "DESIGN") w h) refl
+        | inr k ↦ elim (or_elim (is_word (codes "DIVIDERCHAR") w) _ k) [
+          | inl h ↦ rw (found (codes "DIVIDERCHAR") w h) refl
+          | inr k ↦ elim (or_elim (is_word (codes "BUSBITCHARS") w) _ k) [
+            | inl h ↦ rw (found (codes "BUSBITCHARS") w h) refl
+            | inr k ↦ elim (or_elim (is_word (codes "DIEAREA") w) _ k) [
+              | inl h ↦ rw (found (codes "DIEAREA") w h) refl
+              | inr k ↦ cc
+            ]
           ]
         ]
       ]
     ]
-  ]
 
 pub statements_part : (seen : Kind → Bool) (u : Walk) → begins is_first_heading u ≡ true → begins (is_word (codes "UNITS")) u ≡ false → begins (is_word (codes "COMPONENTS")) u ≡ false → begins (is_word (codes "NETS")) u ≡ false →
     passed_up_to (codes ";") u ≡ first_part_new seen u

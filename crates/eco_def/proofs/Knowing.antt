@@ -4,8 +4,7 @@ use Rattle.std.specs.HashMap.{HashMap}
 use Rattle.std.specs.declared.hash.FoldHasher.{FoldHasher}
 use Rattle.std.specs.declared.hash.BuildHasherDefault.{BuildHasherDefault}
 use Rattle.std.specs.Str.{bytes_eq}
-use Rattle.std.specs.List.{list_any}
-use Rattle.std.proofs.Common.{◌≡◌, ℕ, Bool, true, false, ◌||◌, List, [], ◌∷◌, ◌++◌, map, Result, refl, ap, sym, subst, ◌∙◌, if◌then◌else◌}
+use Rattle.std.proofs.Common.{◌≡◌, ℕ, Bool, true, false, ◌||◌, List, [], ◌∷◌, ◌++◌, Result, refl, ap, sym, subst, ◌∙◌, if◌then◌else◌}
 use Rattle.std.proofs.Math.Path.{fun_ext}
 use Rattle.std.proofs.lemmas.List.Folds.{list_any-append}
 use Rattle.eco_def.specs.declared.first_fault.FirstFault.{FirstFault}
@@ -23,8 +22,8 @@ or_if false false = refl
 pub known_more : (old new : HashMap (Bor (List ℕ)) (Unit {0}) (BuildHasherDefault FoldHasher)) (ns ms : List (List ℕ)) (n : List ℕ) → ms ≡ ns ++ n ∷ [] →
     ((q : List ℕ) → knows old q ≡ is_among ns q) → Adds old new n → (q : List ℕ) → knows new q ≡ is_among ms q
 known_more old new ns ms n is known adds q =
-  adds q ∙ ap (λ b. if bytes_eq n q then true else b) (known q) ∙ or_if (bytes_eq n q) (is_among ns q)
-  ∙ sym (list_any-append (λ m. bytes_eq m q) ns (n ∷ [])) ∙ ap (λ ks. is_among ks q) (sym is)
+    adds q ∙ ap (λ b. if bytes_eq n q then true else b) (known q) ∙ or_if (bytes_eq n q) (is_among ns q)
+    ∙ sym (list_any-append (λ m. bytes_eq m q) ns (n ∷ [])) ∙ ap (λ ks. is_among ks q) (sym is)
 
 -- what is read with the known names is read with those that have stood
 pub read_known : {A B : Type 0} (n : ℕ) (view : List ℕ → B → A) (item : (List ℕ → Bool) → Parser A) (names : HashMap (Bor (List ℕ)) (Unit {0}) (BuildHasherDefault FoldHasher)) (ns : List (List ℕ)) (old new : Reading) (r : Result B FirstFault) →

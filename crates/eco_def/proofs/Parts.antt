@@ -1,20 +1,15 @@
 -- Parts one after another, and the sections that they give.
-use Rattle.std.specs.List.{list_any}
 use Rattle.std.specs.Option.{option_or, option_map}
-use Rattle.std.proofs.Common.{◌≡◌, ℕ, Bool, true, false, ◌||◌, List, [], ◌∷◌, ◌++◌, map, not, Option, Some, None, is_some, IfSome, Result, Ok, Err, refl, ap, sym, ◌∙◌, subst, codes}
-use Rattle.eco_text.specs.Words.{Token, Walk}
-use Rattle.eco_def.specs.declared.first_fault.FirstFault.{FirstFault}
+use Rattle.std.proofs.Common.{◌≡◌, ℕ, false, ◌||◌, List, [], ◌∷◌, ◌++◌, map, Option, Some, None, is_some, refl, ap, sym, ◌∙◌}
 use Rattle.eco_def.specs.declared.part.Part.{Part}
 use Rattle.eco_def.specs.declared.part.Part.TheVariants.{Passed, Units, Comps, Nets}
 use Rattle.eco_def.specs.declared.part.Sections.{Sections}
-use Rattle.eco_def.specs.declared.part.NetSection.{NetSection}
 use Rattle.eco_def.specs.Design as said
-use Rattle.eco_def.specs.Parsing.{then_read, is_word, first_some, many, many_until}
-use Rattle.eco_def.specs.Grammar.{Kind, CompKind, PinKind, SpecialKind, NetKind, NoKind, kind_of, same_kind, have, last_some, units_of, comps_of, pins_of, special_of, nets_of, end_design}
-use Rattle.eco_def.specs.FirstForm.{first_part, first_parts}
+use Rattle.eco_def.specs.Parsing.{first_some}
+use Rattle.eco_def.specs.Grammar.{Kind, CompKind, PinKind, SpecialKind, NetKind, NoKind, kind_of, same_kind, have, last_some, units_of, comps_of, pins_of, special_of, nets_of}
 use Rattle.eco_def.specs.View.{comp_in}
-use Rattle.eco_def.specs.Reading.{Reading, left, Reads, IsInOrder}
-use Rattle.eco_def.specs.Sections.{AreOf, part_in, section_in, seen_in, with_part, IsFresh, PartLies, PartIsOrdinary, SectionLies, SectionsLie, AreOrdinary}
+use Rattle.eco_def.specs.Reading.{Reading, left, IsInOrder}
+use Rattle.eco_def.specs.Sections.{AreOf, part_in, section_in, seen_in, with_part, IsFresh, PartLies, PartIsOrdinary, SectionsLie}
 use Rattle.eco_def.proofs.Loops.{first_some-push, map_push}
 use Rattle.eco_def.proofs.Placing.{is_some-map}
 
@@ -62,23 +57,23 @@ one_more_part text s ps (Units n) a fresh = record {
   nets = a.nets ∙ first_stays nets_of ps (said.Units n) refl;
 }
 one_more_part text s ps (Comps cs) a fresh =
-  let p = said.Comps (map (comp_in text) cs) in
-  record {
-    units = a.units ∙ last_stays units_of ps p refl;
-    comps = first_comes comps_of ps p (sym a.comps ∙ ap (option_map (λ cs. map (comp_in text) cs)) fresh);
-    pins = sym (first_stays pins_of ps p refl) ∙ a.pins;
-    special = sym (first_stays special_of ps p refl) ∙ a.special;
-    nets = a.nets ∙ first_stays nets_of ps p refl;
-  }
+    let p = said.Comps (map (comp_in text) cs) in
+    record {
+      units = a.units ∙ last_stays units_of ps p refl;
+      comps = first_comes comps_of ps p (sym a.comps ∙ ap (option_map (λ cs. map (comp_in text) cs)) fresh);
+      pins = sym (first_stays pins_of ps p refl) ∙ a.pins;
+      special = sym (first_stays special_of ps p refl) ∙ a.special;
+      nets = a.nets ∙ first_stays nets_of ps p refl;
+    }
 one_more_part text s ps (Nets ns) a fresh =
-  let p = said.Nets (section_in text ns) in
-  record {
-    units = a.units ∙ last_stays units_of ps p refl;
-    comps = a.comps ∙ first_stays comps_of ps p refl;
-    pins = sym (first_stays pins_of ps p refl) ∙ a.pins;
-    special = sym (first_stays special_of ps p refl) ∙ a.special;
-    nets = first_comes nets_of ps p (sym a.nets ∙ ap (option_map (section_in text)) fresh);
-  }
+    let p = said.Nets (section_in text ns) in
+    record {
+      units = a.units ∙ last_stays units_of ps p refl;
+      comps = a.comps ∙ first_stays comps_of ps p refl;
+      pins = sym (first_stays pins_of ps p refl) ∙ a.pins;
+      special = sym (first_stays special_of ps p refl) ∙ a.special;
+      nets = first_comes nets_of ps p (sym a.nets ∙ ap (option_map (section_in text)) fresh);
+    }
 
 -- ---- which sections have stood
 

@@ -1,5 +1,5 @@
 -- Words that are passed over.
-use Rattle.std.proofs.Common.{◌≡◌, ℕ, List, Bool, true, false, not, Result, Ok, Err, refl, ap, sym, ◌∙◌, if◌then◌else◌}
+use Rattle.std.proofs.Common.{◌≡◌, ℕ, List, Bool, true, false, not, Result, Ok, Err, refl, ap}
 use Rattle.eco_text.specs.Words.{Token, Walk, finished, open_quote, word_then}
 use Rattle.eco_def.specs.declared.first_fault.FirstFault.{FirstFault}
 use Rattle.eco_def.specs.declared.first_fault.FirstFault.TheVariants.{OpenQuote, UnknownHeading, Unended, BadStatement, TwiceNamed, MustJoin, Missing, Memory}
@@ -15,9 +15,9 @@ pub pass_on : (p : Token → Bool) (u v : Walk) (w : Token) → true ≡ begins 
 pass_on p (finished place) v w on is = cc
 pass_on p (open_quote place) v w on is = cc
 pass_on p (word_then t u) v w on is =
-  let same : u ≡ v = ap (λ r. behind r v) is in
-  let off : p t ≡ false = false_when (p t) on in
-  rw off (ap (pass_to p) same)
+    let same : u ≡ v = ap (λ r. behind r v) is in
+    let off : p t ≡ false = false_when (p t) on in
+    rw off (ap (pass_to p) same)
   where
     false_when : (b : Bool) → true ≡ not b → b ≡ false
     false_when true e = cc

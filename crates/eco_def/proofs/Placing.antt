@@ -1,5 +1,5 @@
 -- Where statements lie, one behind another.
-use Rattle.std.proofs.Common.{◌≡◌, ℕ, ◌<◌, ◌≤◌, false, List, [], ◌∷◌, ◌++◌, Option, Some, None, is_some, IfSome, refl, ap, sym, ◌∙◌, subst, arith}
+use Rattle.std.proofs.Common.{◌≡◌, ℕ, ◌≤◌, false, List, [], ◌∷◌, ◌++◌, Option, Some, None, is_some, refl, arith}
 use Rattle.std.specs.Option.{option_map}
 use Rattle.eco_text.specs.Words.{Walk, finished, open_quote, word_then}
 use Rattle.eco_def.specs.declared.design.NetStatement.{NetStatement}

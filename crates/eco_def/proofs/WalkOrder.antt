@@ -1,5 +1,5 @@
 -- The words of a text stand one behind another.
-use Rattle.std.proofs.Common.{◌≡◌, ℕ, ◌+◌, ◌<◌, ◌≤◌, ◌==◌, ◌&&◌, not, Bool, true, false, List, [], ◌∷◌, ◌++◌, length, refl, ap, sym, ◌∙◌, subst, arith, if◌then◌else◌}
+use Rattle.std.proofs.Common.{◌≡◌, ℕ, ◌+◌, ◌<◌, ◌≤◌, ◌==◌, ◌&&◌, not, Bool, true, false, List, [], ◌∷◌, ◌++◌, length, refl, sym, subst, arith}
 use Rattle.eco_text.specs.Words.{Token, Walk, finished, open_quote, word_then, Mode, between, comment, plain, quote, is_blank, plain_word, quoted_word, step, ends, walk, walk_of, ◌+++◌}
 use Rattle.eco_text.proofs.Stepping.{stepped}
 use Rattle.eco_def.specs.Reading.{IsInOrder}
@@ -42,16 +42,16 @@ from_comment p b hi bs is rec false i' = along comment p b p hi bs comment [] (r
 
 from_plain : (s p b hi : ℕ) (w bs : List ℕ) → p + 1 + length bs ≡ hi → s < p → Ordered bs → (i : Bool) → is_blank b ≡ i → IsInOrder s hi (walk (plain s w) p (b ∷ bs))
 from_plain s p b hi w bs is before rec true i' =
-  along (plain s w) p b s hi bs between (plain_word s w p ∷ []) (rw i' refl) (rw i' refl)
+    along (plain s w) p b s hi bs between (plain_word s w p ∷ []) (rw i' refl) (rw i' refl)
     (omega arith, before, earlier (p + 1) p hi (walk between (p + 1) bs) (omega arith) (rec between (p + 1) hi is tt))
 from_plain s p b hi w bs is before rec false i' =
-  along (plain s w) p b s hi bs (plain s (w ++ b ∷ [])) [] (rw i' refl) (rw i' refl) (rec (plain s (w ++ b ∷ [])) (p + 1) hi is (omega (arith, before)))
+    along (plain s w) p b s hi bs (plain s (w ++ b ∷ [])) [] (rw i' refl) (rw i' refl) (rec (plain s (w ++ b ∷ [])) (p + 1) hi is (omega (arith, before)))
 
 from_quote : (e : Bool) (s p b hi : ℕ) (w bs : List ℕ) → p + 1 + length bs ≡ hi → s < p → Ordered bs → (i : Bool) → ((b == 34) && not e) ≡ i → IsInOrder s hi (walk (quote e s w) p (b ∷ bs))
 from_quote e s p b hi w bs is before rec true i' =
-  along (quote e s w) p b s hi bs between (quoted_word s (w ++ b ∷ []) (p + 1) ∷ []) (rw i' refl) (rw i' refl) (omega arith, omega (arith, before), rec between (p + 1) hi is tt)
+    along (quote e s w) p b s hi bs between (quoted_word s (w ++ b ∷ []) (p + 1) ∷ []) (rw i' refl) (rw i' refl) (omega arith, omega (arith, before), rec between (p + 1) hi is tt)
 from_quote e s p b hi w bs is before rec false i' =
-  along (quote e s w) p b s hi bs (quote (b == 92) s (w ++ b ∷ [])) [] (rw i' refl) (rw i' refl) (rec (quote (b == 92) s (w ++ b ∷ [])) (p + 1) hi is (omega (arith, before)))
+    along (quote e s w) p b s hi bs (quote (b == 92) s (w ++ b ∷ [])) [] (rw i' refl) (rw i' refl) (rec (quote (b == 92) s (w ++ b ∷ [])) (p + 1) hi is (omega (arith, before)))
 
 in_order : (bs : List ℕ) → Ordered bs
 in_order [] between p hi is began = (omega arith, omega (arith, is))

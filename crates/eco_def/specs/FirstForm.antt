@@ -1,6 +1,6 @@
 -- The texts that are read so far: those with a design whose top level has only these headings.
-use Rattle.std.specs.Prelude.{◌≡◌, ℕ, ◌+◌, ◌≤◌, Bool, List, [], ◌∷◌, ◌++◌, length, sum_by, Result, Ok, Err, codes}
-use Rattle.eco_text.specs.Words.{Token, Walk, walk_of}
+use Rattle.std.specs.Prelude.{◌≡◌, ℕ, ◌+◌, ◌≤◌, Bool, List, [], ◌∷◌, length, sum_by, Result, Ok, codes}
+use Rattle.eco_text.specs.Words.{Token, walk_of}
 use Rattle.eco_def.specs.declared.first_fault.FirstFault.{FirstFault}
 use Rattle.eco_def.specs.declared.first_fault.FirstFault.TheVariants.{UnknownHeading}
 use Rattle.eco_def.specs.Parsing.{Parser, ◌>>=◌, give, refuse, choose, is_word, many_until}

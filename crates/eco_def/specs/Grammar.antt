@@ -1,6 +1,6 @@
 -- The grammar of a design, over its words: LEF/DEF 5.8 Language Reference, "DEF Statement Definitions and Examples",
 -- in the profile of docs/FORMATS.md.
-use Rattle.std.specs.Prelude.{ℕ, ℤ, pos, neg_ℤ, ◌+◌, ◌-◌, ◌*◌, ◌^◌, ◌==◌, nat_le, not, Bool, true, false, List, [], ◌∷◌, map, Option, Some, None, is_some, option_and_then, Result, Ok, Err, if◌then◌else◌, codes, ◌&&◌}
+use Rattle.std.specs.Prelude.{ℕ, nat_le, Bool, true, false, List, [], ◌∷◌, map, Option, Some, None, is_some, option_and_then, Result, Ok, Err, if◌then◌else◌, codes}
 use Rattle.std.specs.Str.{bytes_eq}
 use Rattle.std.specs.Option.{option_or}
 use Rattle.eco_text.specs.Numbers.{number_of, at_most, integer_of}

@@ -1,6 +1,6 @@
 -- What a reader has left, and what its calls do.
-use Rattle.std.specs.Prelude.{◌≡◌, ℕ, ◌+◌, ◌<◌, ◌≤◌, List, length, Option, Some, None, Result, Ok, Err, OnOk, IfOk, IfSome}
-use Rattle.eco_text.specs.Words.{Token, Walk, finished, open_quote, word_then}
+use Rattle.std.specs.Prelude.{◌≡◌, ℕ, ◌+◌, ◌<◌, ◌≤◌, List, length, Option, Result, Ok, Err, OnOk, IfOk, IfSome}
+use Rattle.eco_text.specs.Words.{Walk, finished, open_quote, word_then}
 use Rattle.eco_text.specs.Cursor.{Cursor, from, after}
 use Rattle.eco_text.specs.declared.word.Word.{Word}
 use Rattle.eco_text.specs.declared.word.TextFault.{TextFault}

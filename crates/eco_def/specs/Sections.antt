@@ -1,7 +1,7 @@
 -- What was read at the top level, part by part.
 use Rattle.std.specs.Prelude.{◌≡◌, ℕ, ◌<◌, ◌≤◌, nat_le, ◌&&◌, sum_by, Bool, false, List, [], ◌∷◌, length, map, Option, Some, None, is_some, IfSome, Result, Ok, Err, OnOk, IfOk, MatchResult, codes}
 use Rattle.std.specs.Option.{option_map}
-use Rattle.eco_text.specs.Words.{Walk, finished, open_quote, word_then}
+use Rattle.eco_text.specs.Words.{Walk}
 use Rattle.eco_text.specs.Cursor.{token}
 use Rattle.eco_text.specs.declared.word.Word.{Word}
 use Rattle.eco_def.specs.declared.design.NetStatement.{NetStatement}
@@ -10,7 +10,7 @@ use Rattle.eco_def.specs.declared.part.Part.{Part}
 use Rattle.eco_def.specs.declared.part.Part.TheVariants.{Passed, Units, Comps, Nets}
 use Rattle.eco_def.specs.declared.part.Sections.{Sections}
 use Rattle.eco_def.specs.Design as said
-use Rattle.eco_def.specs.Grammar.{Kind, CompKind, PinKind, SpecialKind, NetKind, NoKind, units_of, comps_of, pins_of, special_of, nets_of, last_some, parts_design, design_of}
+use Rattle.eco_def.specs.Grammar.{Kind, CompKind, PinKind, SpecialKind, NetKind, NoKind, units_of, comps_of, pins_of, special_of, nets_of, last_some, design_of}
 use Rattle.eco_def.specs.Parsing.{is_word, many_until, first_some}
 use Rattle.eco_def.specs.declared.first_fault.FirstFault.{FirstFault}
 use Rattle.eco_def.specs.declared.first_fault.FirstFault.TheVariants.{Missing}

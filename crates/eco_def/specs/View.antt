@@ -1,5 +1,5 @@
 -- The code's values as those of the grammar, in their text.
-use Rattle.std.specs.Prelude.{ℕ, not, List, map, Option, Some, None}
+use Rattle.std.specs.Prelude.{ℕ, not, List, map, Option}
 use Rattle.std.specs.Option.{option_map}
 use Rattle.std.specs.List.{filter}
 use Rattle.eco_text.specs.Words.{Token}

@@ -20,3 +20,6 @@ pub use crate::first_fault::{FirstFault, Section};
 pub use crate::orient::Orient;
 pub use crate::place::Place;
 pub use crate::read::{first_form_reads, read_def};
+
+#[cfg(test)]
+mod tests;

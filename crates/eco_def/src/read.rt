@@ -15,7 +15,9 @@ use crate::reader::Reader;
 use std::alloc::Global;
 
 const MOST_COMPS: usize = 1_000_000;
+
 const MOST_NETS: usize = 1_000_000;
+
 const MOST_JOINTS: usize = 4_000_000;
 
 /// The design of a text under the first headings, or its first fault.

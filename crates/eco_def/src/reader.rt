@@ -44,7 +44,9 @@ fn is_one_of(text: &[u8], word: Word, keywords: &[&[u8]]) -> bool
     requires { LiesIn text.now word }
     ensures { result ≡ list_any (λ k. is_word k.now (token text.now word)) keywords.now }
 {
-    keywords.iter().any(|keyword| is_keyword(text, word, keyword))
+    keywords
+        .iter()
+        .any(|keyword| is_keyword(text, word, keyword))
 }
 
 fn is_mark(bytes: &[u8]) -> bool

@@ -10,5 +10,5 @@ is_some-cond false x o = refl
 
 pub returns-clause-names : goal.returns-clause-names
 returns-clause-names c q =
-  ap is_some (hash_map_updates_str c.args.name.now c.args.names.now c.insert.new.self (Some tt) c.in_ok-insert.ensures.updates q)
-  ∙ is_some-cond (bytes_eq c.args.name.now q) tt (get_by (λ k. bytes_eq q k.now) c.args.names.now)
+    ap is_some (hash_map_updates_str c.args.name.now c.args.names.now c.insert.new.self (Some tt) c.in_ok-insert.ensures.updates q)
+    ∙ is_some-cond (bytes_eq c.args.name.now q) tt (get_by (λ k. bytes_eq q k.now) c.args.names.now)

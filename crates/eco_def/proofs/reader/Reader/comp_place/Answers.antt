@@ -7,8 +7,8 @@ use Rattle.eco_def.proofs.reader.Reader.comp_place.Goals as goal
 
 pub clauses-preserved : goal.clauses-preserved
 clauses-preserved c =
-  let i = c.clauses.invariant in
-  ( i.0 ++ c.in_ok-clause.clause ∷ []
-  , c.or-place.ensures ∙ rw i.1 (sym (first_some-push i.0 c.in_ok-clause.clause))
-  , one_more (λ w. not (is_word (codes ";") w)) (λ before. comp_clause) as_is c.args.self.now i.0 c.clauses.self c.comp_clause.new.self c.in_ok-clause.clause i.2 c.clauses-test.ensures c.in_ok-clause.ensures
-  )
+    let i = c.clauses.invariant in (
+      i.0 ++ c.in_ok-clause.clause ∷ [],
+      c.or-place.ensures ∙ rw i.1 (sym (first_some-push i.0 c.in_ok-clause.clause)),
+      one_more (λ w. not (is_word (codes ";") w)) (λ before. comp_clause) as_is c.args.self.now i.0 c.clauses.self c.comp_clause.new.self c.in_ok-clause.clause i.2 c.clauses-test.ensures c.in_ok-clause.ensures,
+    )

@@ -1,6 +1,6 @@
-use Rattle.std.proofs.Common.{map, codes, ap, sym, ◌∙◌, subst}
+use Rattle.std.proofs.Common.{map, codes, ap, ◌∙◌}
 use Rattle.std.proofs.lemmas.Result.{err_from_is_err_and}
-use Rattle.eco_def.specs.Parsing.{is_word, is_among}
+use Rattle.eco_def.specs.Parsing.{is_word}
 use Rattle.eco_def.specs.Grammar.{comp, comp_new}
 use Rattle.eco_def.specs.View.{comp_in, comps_in}
 use Rattle.eco_def.proofs.Loops.{one_pushed, stuck, map_push}
@@ -9,22 +9,22 @@ use Rattle.eco_def.proofs.reader.Reader.comps.Goals as goal
 
 pub returns-in_err-comp : goal.returns-in_err-comp
 returns-in_err-comp c =
-  let i = c.comps.invariant in
-  let front = map (comp_in c.args.self.now.text) c.comps.comps in
-  let p = err_from_is_err_and c.from_residual.result c.from_residual.ensures.1 in
-  rw (p.1, p.2)
+    let i = c.comps.invariant in
+    let front = map (comp_in c.args.self.now.text) c.comps.comps in
+    let p = err_from_is_err_and c.from_residual.result c.from_residual.ensures.1 in
+    rw (p.1, p.2)
     (stuck (is_word (codes "-")) comp comp_in comps_in c.args.self.now front c.comps.self c.comp.new.self c.in_err-comp.field-0.0 i.1 c.comps-test.ensures
-      (read_known 1 comp_in comp_new c.comps.names (map (λ k. k.name.bytes) front) c.comps.self c.comp.new.self _ i.0 c.in_err-comp.ensures.reads))
+    (read_known 1 comp_in comp_new c.comps.names (map (λ k. k.name.bytes) front) c.comps.self c.comp.new.self _ i.0 c.in_err-comp.ensures.reads))
 
 pub comps-preserved : goal.comps-preserved
 comps-preserved c =
-  let i = c.comps.invariant in
-  let text = c.args.self.now.text in
-  let front = map (comp_in text) c.comps.comps in
-  let k = c.in_ok-comp.comp in
-  ( known_more c.comps.names c.comp.new.names (map (λ k. k.name.bytes) front) _ (comp_in text k).name.bytes
-      (ap (λ ks. map (λ k. k.name.bytes) (map (comp_in text) ks)) c.in_ok-push.ensures.ok ∙ ap (map (λ k. k.name.bytes)) (map_push (comp_in text) c.comps.comps k) ∙ map_push (λ k. k.name.bytes) front (comp_in text k))
-      i.0 (rw i.1.text at c.in_ok-comp.ensures.names)
-  , one_pushed (is_word (codes "-")) comp comp_in c.args.self.now c.comps.comps c.push.new.self c.comps.self c.comp.new.self k c.in_ok-push.ensures.ok i.1 c.comps-test.ensures
-      (read_known 1 comp_in comp_new c.comps.names (map (λ k. k.name.bytes) front) c.comps.self c.comp.new.self _ i.0 c.in_ok-comp.ensures.reads)
-  )
+    let i = c.comps.invariant in
+    let text = c.args.self.now.text in
+    let front = map (comp_in text) c.comps.comps in
+    let k = c.in_ok-comp.comp in (
+      known_more c.comps.names c.comp.new.names (map (λ k. k.name.bytes) front) _ (comp_in text k).name.bytes
+          (ap (λ ks. map (λ k. k.name.bytes) (map (comp_in text) ks)) c.in_ok-push.ensures.ok ∙ ap (map (λ k. k.name.bytes)) (map_push (comp_in text) c.comps.comps k) ∙ map_push (λ k. k.name.bytes) front (comp_in text k))
+          i.0 (rw i.1.text at c.in_ok-comp.ensures.names),
+      one_pushed (is_word (codes "-")) comp comp_in c.args.self.now c.comps.comps c.push.new.self c.comps.self c.comp.new.self k c.in_ok-push.ensures.ok i.1 c.comps-test.ensures
+          (read_known 1 comp_in comp_new c.comps.names (map (λ k. k.name.bytes) front) c.comps.self c.comp.new.self _ i.0 c.in_ok-comp.ensures.reads),
+    )

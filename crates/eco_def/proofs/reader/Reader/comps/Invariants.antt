@@ -10,8 +10,8 @@ use Rattle.eco_def.proofs.reader.Reader.comps.Given as goal
 -- the components that were read, whose names are known
 abbrev pub invariant-comps : goal.invariant-comps
 invariant-comps l =
-  ((q : List ℕ) → knows l.names q ≡ is_among (map (λ c. c.name.bytes) (map (comp_in l.initial.self.text) l.comps)) q)
-  × Loops (is_word (codes "-")) comp l.initial.self (map (comp_in l.initial.self.text) l.comps) l.self
+    ((q : List ℕ) → knows l.names q ≡ is_among (map (λ c. c.name.bytes) (map (comp_in l.initial.self.text) l.comps)) q)
+    × Loops (is_word (codes "-")) comp l.initial.self (map (comp_in l.initial.self.text) l.comps) l.self
 
 abbrev pub decreases-comps : goal.decreases-comps
 decreases-comps l = size (left l.self)

@@ -8,12 +8,12 @@ use Rattle.eco_def.proofs.reader.Reader.joints.Goals as goal
 
 pub joints-preserved : goal.joints-preserved
 joints-preserved c =
-  one_pushed (is_word (codes "(")) (λ before. joint) joint_in c.args.self.now c.joints.joints c.push.new.self c.joints.self c.joint.new.self c.in_ok-joint.joint
+    one_pushed (is_word (codes "(")) (λ before. joint) joint_in c.args.self.now c.joints.joints c.push.new.self c.joints.self c.joint.new.self c.in_ok-joint.joint
     c.in_ok-push.ensures.ok c.joints.invariant c.joints-test.ensures c.in_ok-joint.ensures
 
 pub returns-in_err-joint : goal.returns-in_err-joint
 returns-in_err-joint c =
-  let p = err_from_is_err_and c.from_residual.result c.from_residual.ensures.1 in
-  rw (p.1, p.2)
+    let p = err_from_is_err_and c.from_residual.result c.from_residual.ensures.1 in
+    rw (p.1, p.2)
     (stuck (is_word (codes "(")) (λ before. joint) joint_in joints_in c.args.self.now (map (joint_in c.args.self.now.text) c.joints.joints) c.joints.self c.joint.new.self c.in_err-joint.field-0.0
-      c.joints.invariant c.joints-test.ensures c.in_err-joint.ensures)
+    c.joints.invariant c.joints-test.ensures c.in_err-joint.ensures)

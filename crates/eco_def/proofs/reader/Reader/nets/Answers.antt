@@ -1,6 +1,6 @@
-use Rattle.std.proofs.Common.{map, codes, ap, sym, ◌∙◌}
+use Rattle.std.proofs.Common.{map, codes, ap, ◌∙◌}
 use Rattle.std.proofs.lemmas.Result.{err_from_is_err_and}
-use Rattle.eco_def.specs.Parsing.{is_word, is_among}
+use Rattle.eco_def.specs.Parsing.{is_word}
 use Rattle.eco_def.specs.Grammar.{net, net_new}
 use Rattle.eco_def.specs.View.{net_in, nets_in}
 use Rattle.eco_def.proofs.Loops.{one_pushed, stuck, map_push}
@@ -10,24 +10,24 @@ use Rattle.eco_def.proofs.reader.Reader.nets.Goals as goal
 
 pub returns-in_err-net-clause-reads : goal.returns-in_err-net-clause-reads
 returns-in_err-net-clause-reads c =
-  let i = c.statements.invariant in
-  let front = map (net_in c.args.self.now.text) c.statements.nets in
-  let p = err_from_is_err_and c.from_residual.result c.from_residual.ensures.1 in
-  rw (p.1, p.2)
+    let i = c.statements.invariant in
+    let front = map (net_in c.args.self.now.text) c.statements.nets in
+    let p = err_from_is_err_and c.from_residual.result c.from_residual.ensures.1 in
+    rw (p.1, p.2)
     (stuck (is_word (codes "-")) net net_in nets_in c.args.self.now front c.statements.self c.net.new.self c.in_err-net.field-0.0 i.1 c.statements-test.ensures
-      (read_known 1 net_in net_new c.statements.names (map (λ k. k.name.bytes) front) c.statements.self c.net.new.self _ i.0 c.in_err-net.ensures.reads))
+    (read_known 1 net_in net_new c.statements.names (map (λ k. k.name.bytes) front) c.statements.self c.net.new.self _ i.0 c.in_err-net.ensures.reads))
 
 pub statements-preserved : goal.statements-preserved
 statements-preserved c =
-  let i = c.statements.invariant in
-  let text = c.args.self.now.text in
-  let front = map (net_in text) c.statements.nets in
-  let k = c.in_ok-net.net in
-  ( known_more c.statements.names c.net.new.names (map (λ k. k.name.bytes) front) _ (net_in text k).name.bytes
-      (ap (λ ks. map (λ k. k.name.bytes) (map (net_in text) ks)) c.in_ok-push.ensures.ok ∙ ap (map (λ k. k.name.bytes)) (map_push (net_in text) c.statements.nets k) ∙ map_push (λ k. k.name.bytes) front (net_in text k))
-      i.0 (rw i.1.text at c.in_ok-net.ensures.names)
-  , one_pushed (is_word (codes "-")) net net_in c.args.self.now c.statements.nets c.push.new.self c.statements.self c.net.new.self k c.in_ok-push.ensures.ok i.1 c.statements-test.ensures
-      (read_known 1 net_in net_new c.statements.names (map (λ k. k.name.bytes) front) c.statements.self c.net.new.self _ i.0 c.in_ok-net.ensures.reads)
-  , λ lo hi order. rw c.in_ok-push.ensures.ok (placed_push lo hi c.statements.self c.net.new.self c.statements.nets k (i.2 lo hi order) c.in_ok-net.ensures.placed)
-  , rw c.in_ok-push.ensures.ok (ordinary_push c.statements.nets k i.3 c.in_ok-net.ensures.ordinary)
-  )
+    let i = c.statements.invariant in
+    let text = c.args.self.now.text in
+    let front = map (net_in text) c.statements.nets in
+    let k = c.in_ok-net.net in (
+      known_more c.statements.names c.net.new.names (map (λ k. k.name.bytes) front) _ (net_in text k).name.bytes
+          (ap (λ ks. map (λ k. k.name.bytes) (map (net_in text) ks)) c.in_ok-push.ensures.ok ∙ ap (map (λ k. k.name.bytes)) (map_push (net_in text) c.statements.nets k) ∙ map_push (λ k. k.name.bytes) front (net_in text k))
+          i.0 (rw i.1.text at c.in_ok-net.ensures.names),
+      one_pushed (is_word (codes "-")) net net_in c.args.self.now c.statements.nets c.push.new.self c.statements.self c.net.new.self k c.in_ok-push.ensures.ok i.1 c.statements-test.ensures
+          (read_known 1 net_in net_new c.statements.names (map (λ k. k.name.bytes) front) c.statements.self c.net.new.self _ i.0 c.in_ok-net.ensures.reads),
+      λ lo hi order. rw c.in_ok-push.ensures.ok (placed_push lo hi c.statements.self c.net.new.self c.statements.nets k (i.2 lo hi order) c.in_ok-net.ensures.placed),
+      rw c.in_ok-push.ensures.ok (ordinary_push c.statements.nets k i.3 c.in_ok-net.ensures.ordinary),
+    )

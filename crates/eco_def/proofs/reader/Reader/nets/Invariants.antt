@@ -11,10 +11,10 @@ use Rattle.eco_def.proofs.reader.Reader.nets.Given as goal
 -- the statements that were read, whose names are known, and which lie one behind another
 abbrev pub invariant-statements : goal.invariant-statements
 invariant-statements l =
-  ((q : List ℕ) → knows l.names q ≡ is_among (map (λ n. n.name.bytes) (map (net_in l.initial.self.text) l.nets)) q)
-  × Loops (is_word (codes "-")) net l.initial.self (map (net_in l.initial.self.text) l.nets) l.self
-  × ArePlacedBetween l.initial.self l.self l.nets
-  × AreOrdinary l.nets
+    ((q : List ℕ) → knows l.names q ≡ is_among (map (λ n. n.name.bytes) (map (net_in l.initial.self.text) l.nets)) q)
+    × Loops (is_word (codes "-")) net l.initial.self (map (net_in l.initial.self.text) l.nets) l.self
+    × ArePlacedBetween l.initial.self l.self l.nets
+    × AreOrdinary l.nets
 
 abbrev pub decreases-statements : goal.decreases-statements
 decreases-statements l = size (left l.self)

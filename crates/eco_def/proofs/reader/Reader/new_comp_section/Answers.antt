@@ -1,4 +1,4 @@
-use Rattle.std.proofs.Common.{sym, ap, ◌∙◌, if◌then◌else◌}
+use Rattle.std.proofs.Common.{ap, ◌∙◌, if◌then◌else◌}
 use Rattle.eco_text.specs.Words.{Token}
 use Rattle.eco_def.specs.declared.first_fault.FirstFault.TheVariants.{TwiceNamed}
 use Rattle.eco_def.specs.Design.{Part}
@@ -11,5 +11,5 @@ use Rattle.eco_def.proofs.reader.Reader.new_comp_section.Goals as goal
 
 pub returns-then-stood-clause-reads : goal.returns-then-stood-clause-reads
 returns-then-stood-clause-reads c =
-  stays_refused 1 part_in (if c.args.stood then refuse TwiceNamed else comp_section) c.args.self.now c.twice_named.result
+    stays_refused 1 part_in (if c.args.stood then refuse TwiceNamed else comp_section) c.args.self.now c.twice_named.result
     (ap (λ b. (if b then refuse TwiceNamed else comp_section) (left c.args.self.now)) c.if-stood.true ∙ refuse_as {A = Token} {B = Part} TwiceNamed (left c.args.self.now) c.twice_named.result c.twice_named.ensures)

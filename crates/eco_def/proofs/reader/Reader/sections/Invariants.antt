@@ -1,19 +1,18 @@
-use Rattle.std.proofs.Common.{◌≡◌, ℕ, List, codes, not}
+use Rattle.std.proofs.Common.{List, codes, not}
 use Rattle.eco_def.specs.Design.{Part}
 use Rattle.eco_def.specs.Parsing.{is_word, size}
-use Rattle.eco_def.specs.Grammar.{Kind, have}
 use Rattle.eco_def.specs.FirstForm.{first_part}
 use Rattle.eco_def.specs.Reading.{left}
-use Rattle.eco_def.specs.Sections.{AreOf, seen_in, SectionsLie}
+use Rattle.eco_def.specs.Sections.{AreOf, SectionsLie}
 use Rattle.eco_def.proofs.Loops.{Loops}
 use Rattle.eco_def.proofs.reader.Reader.sections.Given as goal
 
 -- some parts were read, and these are their sections
 abbrev pub invariant-parts : goal.invariant-parts
 invariant-parts l =
-  (ps : List Part) × AreOf l.initial.self.text l.sections ps
-  × Loops (λ w. not (is_word (codes "END") w)) first_part l.initial.self ps l.self
-  × SectionsLie l.initial.self l.sections
+    (ps : List Part) × AreOf l.initial.self.text l.sections ps
+    × Loops (λ w. not (is_word (codes "END") w)) first_part l.initial.self ps l.self
+    × SectionsLie l.initial.self l.sections
 
 abbrev pub decreases-parts : goal.decreases-parts
 decreases-parts l = size (left l.self)

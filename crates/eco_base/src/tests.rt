@@ -1,0 +1,104 @@
+use crate::{MoveFault, emit, emit_len, move_joint};
+use eco_def::read_def;
+use eco_text::ByteSink;
+use std::alloc::Global;
+use std::process::Abort;
+use std::test::Fail;
+
+const TEXT: &str = "VERSION 5.8 ;
+DIVIDERCHAR \"/\" ;
+BUSBITCHARS \"[]\" ;
+DESIGN top ;
+UNITS DISTANCE MICRONS 1000 ;
+DIEAREA ( 0 0 ) ( 20000 20000 ) ;
+COMPONENTS 7 ;
+- u1 NAND2 + PLACED ( 1000 1000 ) N ;
+- u2 INV + PLACED ( 3000 1000 ) N ;
+- r1 DFF + PLACED ( 5000 1000 ) N ;
+- SP_1 NAND2 + FIXED ( 2000 2000 ) N ;
+- SP_2 NAND2 + FIXED ( 8000 2000 ) N ;
+- SP_3 AOI21 + FIXED ( 6000 2000 ) N ;
+- SP_4 NAND2 + UNPLACED ;
+END COMPONENTS
+NETS 6 ;
+- a ( PIN a ) ( u1 A ) ;
+- b ( PIN b ) ( u1 B ) ;
+- ck ( PIN ck ) ( r1 CK ) ;
+- n1 ( u1 Y ) ( u2 A ) + ROUTED M1 ( 1000 1000 ) ( 3000 * ) ;
+- n2 ( u2 Y ) ( r1 D ) ;
+- q ( r1 Q ) ( PIN q ) ;
+END NETS
+END DESIGN
+";
+
+/// What a move writes, or the fault's name.
+fn moved(
+    rt: &impl Abort,
+    alloc: Global,
+    text: &str,
+    words: [&'static str; 4],
+) -> Result<String, Fail> {
+    let text = text.as_bytes();
+    assert!(rt; text.len() <= 10000);
+    let design = read_def(alloc, text)?;
+    let [comp, pin, from, to] = words;
+    let made = move_joint(
+        alloc,
+        text,
+        &design,
+        comp.as_bytes(),
+        pin.as_bytes(),
+        from.as_bytes(),
+        to.as_bytes(),
+    );
+    let overlay = match made {
+        Ok(overlay) => overlay,
+        Err(fault) => return Ok(format!(in alloc; "{fault}")?),
+    };
+    let mut sink = ByteSink::new(Vec::new(alloc));
+    assert!(rt; emit(text, &design, &overlay, &mut sink).is_ok());
+    assert!(rt; emit_len(text, &design, &overlay) == sink.bytes().len() as u64);
+    Ok(String::from_utf8(Vec::from_slice(alloc, sink.bytes())?)?)
+}
+
+#[test]
+fn one_pin_moved_and_all_else_as_it_was(rt: HostRuntime) -> Result<(), Fail> {
+    let alloc = rt.alloc();
+    let wanted = TEXT
+        .replace(alloc, "- n1 ( u1 Y ) ( u2 A ) + ROUTED M1 ( 1000 1000 ) ( 3000 * ) ;", "- n1 ( u1 Y ) ( u2 A ) ( r1 D ) ;")?
+        .replace(alloc, "- n2 ( u2 Y ) ( r1 D ) ;", "- n2 ( u2 Y ) ;")?;
+    assert_eq!(rt; moved(&rt, alloc, TEXT, ["r1", "D", "n2", "n1"])?, wanted);
+    assert_eq!(rt; wanted.len() + 37, TEXT.len());
+    assert_eq!(rt; moved(&rt, alloc, TEXT, ["r1", "D", "n2", "n2"])?.as_str(), TEXT);
+    Ok(())
+}
+
+#[test]
+fn moves_that_are_refused(rt: HostRuntime) -> Result<(), Fail> {
+    let rows = [
+        (["u9", "D", "n2", "n1"], "UnknownComponent"),
+        (["PIN", "a", "a", "n1"], "UnknownComponent"),
+        (["u9", "D", "zz", "zz"], "UnknownComponent"),
+        (["r1", "D", "a", "n1"], "NotOnNet"),
+        (["r1", "D", "a", "zz"], "NotOnNet"),
+        (["r1", "D", "zz", "n1"], "NotOnNet"),
+        (["r1", "Q", "n2", "n1"], "NotOnNet"),
+        (["r1", "D", "n2", "zz"], "UnknownNet"),
+    ];
+    for (words, wanted) in rows {
+        assert_eq!(rt; moved(&rt, rt.alloc(), TEXT, words)?.as_str(), wanted);
+    }
+    Ok(())
+}
+
+#[test]
+fn statements_as_tools_write_them(rt: HostRuntime) -> Result<(), Fail> {
+    let text = "UNITS DISTANCE MICRONS 1 ; COMPONENTS 2 ; - u/1 INV ; - u\\[2\\] INV ; END COMPONENTS\r\n\
+        NETS 3 ; - a[0]\r\n\t( u/1 A # here\n ) ( u\\[2\\] A + SYNTHESIZED ) ( u/1 B ) + USE SIGNAL + ROUTED M1 ( 0 0 ) ;\n\
+        - b ( u/1 A ) + USE CLOCK ; - c ; END NETS END DESIGN";
+    let wanted = "UNITS DISTANCE MICRONS 1 ; COMPONENTS 2 ; - u/1 INV ; - u\\[2\\] INV ; END COMPONENTS\r\n\
+        NETS 3 ; - a[0] ( u\\[2\\] A + SYNTHESIZED ) ( u/1 B ) + USE SIGNAL ;\n\
+        - b + USE CLOCK ; - c ( u/1 A ) ; END NETS END DESIGN";
+    assert_eq!(rt; moved(&rt, rt.alloc(), text, ["u/1", "A", "a[0]", "c"])?.as_str(), wanted);
+    Ok(())
+}
