@@ -28,8 +28,8 @@ order_on bytes at from hi i ss d lt o = subst (λ ts. InOrder at hi (edits_of by
 pub edited_on : (text bytes : List ℕ) (at from i : ℕ) (ss : List Stretch) (d : Stretch) → i < length ss →
     edited text at (edits_of bytes from (drop i ss)) ≡ (slice_range text at (get_or ss i d).start ++ slice_range bytes from (get_or ss i d).upto) ++ edited text (get_or ss i d).end (edits_of bytes (get_or ss i d).upto (drop (i + 1) ss))
 edited_on text bytes at from i ss d lt =
-  ap (λ ts. edited text at (edits_of bytes from ts)) (first_of ss i d lt)
-  ∙ sym (append_assoc (slice_range text at (get_or ss i d).start) (slice_range bytes from (get_or ss i d).upto) (edited text (get_or ss i d).end (edits_of bytes (get_or ss i d).upto (drop (i + 1) ss))))
+    ap (λ ts. edited text at (edits_of bytes from ts)) (first_of ss i d lt)
+    ∙ sym (append_assoc (slice_range text at (get_or ss i d).start) (slice_range bytes from (get_or ss i d).upto) (edited text (get_or ss i d).end (edits_of bytes (get_or ss i d).upto (drop (i + 1) ss))))
 
 pub edited_end : (text bytes : List ℕ) (at from i : ℕ) (ss : List Stretch) → length ss ≤ i → edited text at (edits_of bytes from (drop i ss)) ≡ drop at text
 edited_end text bytes at from i ss le = ap (λ ts. edited text at (edits_of bytes from ts)) (drop_all i ss le)
@@ -45,18 +45,18 @@ pub length_on : (text bytes : List ℕ) (whole replaced at from i : ℕ) (ss : L
     InOrder at (length text) (edits_of bytes from (drop i ss)) → Rises from (length bytes) (drop i ss) → whole + replaced ≡ at + from + length (edited text at (edits_of bytes from (drop i ss))) →
     whole + (replaced + ((get_or ss i d).end - (get_or ss i d).start)) ≡ (get_or ss i d).end + (get_or ss i d).upto + length (edited text (get_or ss i d).end (edits_of bytes (get_or ss i d).upto (drop (i + 1) ss)))
 length_on text bytes whole replaced at from i ss d lt order rises same =
-  let s = get_or ss i d in
-  let o = order_on bytes at from (length text) i ss d lt order in
-  let r = rises_on from (length bytes) i ss d lt rises in
-  let end = order_room s.end (length text) (edits_of bytes s.upto (drop (i + 1) ss)) o.2 in
-  let upto = rises_room s.upto (length bytes) (drop (i + 1) ss) r.1 in
-  let rest = edited text s.end (edits_of bytes s.upto (drop (i + 1) ss)) in
-  let a : length (slice_range text at s.start) ≡ s.start - at = length-slice text at s.start o.0 (omega (arith, o.1, end)) in
-  let b : length (slice_range bytes from s.upto) ≡ s.upto - from = length-slice bytes from s.upto r.0 upto in
-  let e : length (edited text at (edits_of bytes from (drop i ss))) ≡ (s.start - at) + (s.upto - from) + length rest =
+    let s = get_or ss i d in
+    let o = order_on bytes at from (length text) i ss d lt order in
+    let r = rises_on from (length bytes) i ss d lt rises in
+    let end = order_room s.end (length text) (edits_of bytes s.upto (drop (i + 1) ss)) o.2 in
+    let upto = rises_room s.upto (length bytes) (drop (i + 1) ss) r.1 in
+    let rest = edited text s.end (edits_of bytes s.upto (drop (i + 1) ss)) in
+    let a : length (slice_range text at s.start) ≡ s.start - at = length-slice text at s.start o.0 (omega (arith, o.1, end)) in
+    let b : length (slice_range bytes from s.upto) ≡ s.upto - from = length-slice bytes from s.upto r.0 upto in
+    let e : length (edited text at (edits_of bytes from (drop i ss))) ≡ (s.start - at) + (s.upto - from) + length rest =
     ap length (edited_on text bytes at from i ss d lt) ∙ length-append (slice_range text at s.start ++ slice_range bytes from s.upto) rest
     ∙ ap (λ n. n + length rest) (length-append (slice_range text at s.start) (slice_range bytes from s.upto) ∙ ap (λ n. n + length (slice_range bytes from s.upto)) a ∙ ap (λ n. s.start - at + n) b) in
-  omega (arith, same, e, o.0, o.1, r.0)
+    omega (arith, same, e, o.0, o.1, r.0)
 
 -- a push that has room has worked
 pub pushed : {A T E : Type 0} (r : Result T E) (old new : List A) (x : A) (room len : ℕ) → new ≡ (if is_ok r then old ++ x ∷ [] else old) → OnErr r (room ≤ len) → len < room → new ≡ old ++ x ∷ []

@@ -36,27 +36,27 @@ list_any-map p g (x ∷ xs) = ap (λ b. p (g x) || b) (list_any-map p g xs)
 -- pieces put one behind another
 pub put_four : (a b c d w x y z : List ℕ) → w ≡ a → x ≡ w ++ b → y ≡ x ++ c → z ≡ y ++ d → z ≡ a ++ (b ++ (c ++ d))
 put_four a b c d w x y z p q r s =
-  s ∙ ap (λ k. k ++ d) (r ∙ ap (λ k. k ++ c) (q ∙ ap (λ k. k ++ b) p)) ∙ ap (λ k. k ++ d) (append_assoc a b c) ∙ append_assoc a (b ++ c) d ∙ ap (λ k. a ++ k) (append_assoc b c d)
+    s ∙ ap (λ k. k ++ d) (r ∙ ap (λ k. k ++ c) (q ∙ ap (λ k. k ++ b) p)) ∙ ap (λ k. k ++ d) (append_assoc a b c) ∙ append_assoc a (b ++ c) d ∙ ap (λ k. a ++ k) (append_assoc b c d)
 
 -- a statement in which nothing changes has no edit
 pub no_edit : (text : List ℕ) (n : NewJoint) (stood whole comes : Bool) (s : NetStatement) → comes ≡ (not stood && bytes_eq (word_bytes text s.name) n.net) →
     whole ≡ (list_all (λ j. stays_on (n ∷ []) (word_bytes text s.name) (names_in text j)) s.joints && not comes) → whole ≡ true → move_edits text n stood (net_in text s) ≡ []
 no_edit text n stood whole comes s c w on =
-  let all = list_all-map (λ j. stays_on (n ∷ []) (word_bytes text s.name) (joint_names j)) (joint_in text) s.joints in
-  let same : (list_all (λ j. stays_on (n ∷ []) (word_bytes text s.name) (joint_names j)) (map (joint_in text) s.joints) && not (not stood && bytes_eq (word_bytes text s.name) n.net)) ≡ true =
+    let all = list_all-map (λ j. stays_on (n ∷ []) (word_bytes text s.name) (joint_names j)) (joint_in text) s.joints in
+    let same : (list_all (λ j. stays_on (n ∷ []) (word_bytes text s.name) (joint_names j)) (map (joint_in text) s.joints) && not (not stood && bytes_eq (word_bytes text s.name) n.net)) ≡ true =
     ap (λ b. b && not (not stood && bytes_eq (word_bytes text s.name) n.net)) all ∙ ap (λ b. list_all (λ j. stays_on (n ∷ []) (word_bytes text s.name) (names_in text j)) s.joints && not b) (sym c) ∙ sym w ∙ on in
-  ap (λ b. if b then [] else (let e : Edit = record { start = s.start; end = s.end; bytes = moved_text text n (not stood && bytes_eq (word_bytes text s.name) n.net) (net_in text s) } in e ∷ [])) same
+    ap (λ b. if b then [] else (let e : Edit = record { start = s.start; end = s.end; bytes = moved_text text n (not stood && bytes_eq (word_bytes text s.name) n.net) (net_in text s) } in e ∷ [])) same
 
 -- one in which something changes has one
 pub one_edit : (text : List ℕ) (n : NewJoint) (stood whole comes : Bool) (s : NetStatement) → comes ≡ (not stood && bytes_eq (word_bytes text s.name) n.net) →
     whole ≡ (list_all (λ j. stays_on (n ∷ []) (word_bytes text s.name) (names_in text j)) s.joints && not comes) → whole ≡ false →
     move_edits text n stood (net_in text s) ≡ record { start = s.start; end = s.end; bytes = moved_text text n comes (net_in text s) } ∷ []
 one_edit text n stood whole comes s c w off =
-  let all = list_all-map (λ j. stays_on (n ∷ []) (word_bytes text s.name) (joint_names j)) (joint_in text) s.joints in
-  let same : (list_all (λ j. stays_on (n ∷ []) (word_bytes text s.name) (joint_names j)) (map (joint_in text) s.joints) && not (not stood && bytes_eq (word_bytes text s.name) n.net)) ≡ false =
+    let all = list_all-map (λ j. stays_on (n ∷ []) (word_bytes text s.name) (joint_names j)) (joint_in text) s.joints in
+    let same : (list_all (λ j. stays_on (n ∷ []) (word_bytes text s.name) (joint_names j)) (map (joint_in text) s.joints) && not (not stood && bytes_eq (word_bytes text s.name) n.net)) ≡ false =
     ap (λ b. b && not (not stood && bytes_eq (word_bytes text s.name) n.net)) all ∙ ap (λ b. list_all (λ j. stays_on (n ∷ []) (word_bytes text s.name) (names_in text j)) s.joints && not b) (sym c) ∙ sym w ∙ off in
-  ap (λ b. if b then [] else (let e : Edit = record { start = s.start; end = s.end; bytes = moved_text text n (not stood && bytes_eq (word_bytes text s.name) n.net) (net_in text s) } in e ∷ [])) same
-  ∙ ap (λ b. let e : Edit = record { start = s.start; end = s.end; bytes = moved_text text n b (net_in text s) } in e ∷ []) (sym c)
+    ap (λ b. if b then [] else (let e : Edit = record { start = s.start; end = s.end; bytes = moved_text text n (not stood && bytes_eq (word_bytes text s.name) n.net) (net_in text s) } in e ∷ [])) same
+    ∙ ap (λ b. let e : Edit = record { start = s.start; end = s.end; bytes = moved_text text n b (net_in text s) } in e ∷ []) (sym c)
 
 -- ---- the design's lists, where NETS alone has statements
 
@@ -66,26 +66,26 @@ or_false false = refl
 
 named_nets : (text : List ℕ) (d : Design) → AreOrdinary d.nets → (names_of (design_in text d)).special ++ (names_of (design_in text d)).nets ≡ map net_names (map (net_in text) d.nets)
 named_nets text d ordinary =
-  ap (λ ss. map net_names (map (net_in text) ss) ++ map net_names (map (net_in text) (filter (λ s. not s.special) d.nets))) (special_none d.nets ordinary)
-  ∙ ap (λ ss. map net_names (map (net_in text) ss)) (ordinary_all d.nets ordinary)
+    ap (λ ss. map net_names (map (net_in text) ss) ++ map net_names (map (net_in text) (filter (λ s. not s.special) d.nets))) (special_none d.nets ordinary)
+    ∙ ap (λ ss. map net_names (map (net_in text) ss)) (ordinary_all d.nets ordinary)
 
 pub has_statement_is : (text : List ℕ) (name : List ℕ) (ss : List NetStatement) → has_statement (map net_names (map (net_in text) ss)) name ≡ names_net text name ss
 has_statement_is text name ss = list_any-map (λ s. bytes_eq s.name name) net_names (map (net_in text) ss) ∙ list_any-map (λ s. bytes_eq (net_names s).name name) (net_in text) ss
 
 pub stands_is : (text : List ℕ) (n : NewJoint) (ss : List NetStatement) → stands (map net_names (map (net_in text) ss)) n ≡ stands_in text n ss
 stands_is text n ss =
-  list_any-map (λ s. bytes_eq s.name n.net && list_any (is_of n) s.joints) net_names (map (net_in text) ss)
-  ∙ list_any-map (λ s. bytes_eq (net_names s).name n.net && list_any (is_of n) (net_names s).joints) (net_in text) ss
-  ∙ ap (λ f. list_any f ss) (fun_ext (λ (s : NetStatement). ap (λ b. bytes_eq (word_bytes text s.name) n.net && b)
-      (list_any-map (is_of n) joint_names (map (joint_in text) s.joints) ∙ list_any-map (λ j. is_of n (joint_names j)) (joint_in text) s.joints)))
+    list_any-map (λ s. bytes_eq s.name n.net && list_any (is_of n) s.joints) net_names (map (net_in text) ss)
+    ∙ list_any-map (λ s. bytes_eq (net_names s).name n.net && list_any (is_of n) (net_names s).joints) (net_in text) ss
+    ∙ ap (λ f. list_any f ss) (fun_ext (λ (s : NetStatement). ap (λ b. bytes_eq (word_bytes text s.name) n.net && b)
+    (list_any-map (is_of n) joint_names (map (joint_in text) s.joints) ∙ list_any-map (λ j. is_of n (joint_names j)) (joint_in text) s.joints)))
 
 pub all_stands_is : (text : List ℕ) (n : NewJoint) (d : Design) → AreOrdinary d.nets → stands ((names_of (design_in text d)).special ++ (names_of (design_in text d)).nets) n ≡ stands_in text n d.nets
 all_stands_is text n d ordinary = ap (λ ns. stands ns n) (named_nets text d ordinary) ∙ stands_is text n d.nets
 
 pub has_net_is : (text : List ℕ) (name : List ℕ) (d : Design) → AreOrdinary d.nets → d.pins ≡ [] → has_net (names_of (design_in text d)) name ≡ names_net text name d.nets
 has_net_is text name d ordinary none =
-  ap (λ b. b || list_any (λ p. bytes_eq p.net name) (names_of (design_in text d)).pins) (ap (λ ns. has_statement ns name) (named_nets text d ordinary) ∙ has_statement_is text name d.nets)
-  ∙ ap (λ ps. names_net text name d.nets || list_any (λ p. bytes_eq p.net name) (map pin_names (map (pin_in text) ps))) none ∙ or_false (names_net text name d.nets)
+    ap (λ b. b || list_any (λ p. bytes_eq p.net name) (names_of (design_in text d)).pins) (ap (λ ns. has_statement ns name) (named_nets text d ordinary) ∙ has_statement_is text name d.nets)
+    ∙ ap (λ ps. names_net text name d.nets || list_any (λ p. bytes_eq p.net name) (map pin_names (map (pin_in text) ps))) none ∙ or_false (names_net text name d.nets)
 
 pub has_comp_is : (text : List ℕ) (name : List ℕ) (d : Design) → has_comp (names_of (design_in text d)) name ≡ (not (is_no_component name) && names_comp text name d.comps)
 has_comp_is text name d = ap (λ b. not (is_no_component name) && b) (list_any-map (λ k. bytes_eq k.name name) comp_names (map (comp_in text) d.comps) ∙ list_any-map (λ k. bytes_eq (comp_names k).name name) (comp_in text) d.comps)

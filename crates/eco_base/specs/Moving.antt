@@ -20,10 +20,10 @@ has_net d name = has_statement (d.special ++ d.nets) name || list_any (λ p. byt
 -- why a pin can't be moved: the first reason there is
 abbrev pub move_fault : NamedDesign → List ℕ → List ℕ → List ℕ → List ℕ → Option MoveFault
 move_fault d comp pin from to =
-  if not (has_comp d comp) then Some UnknownComponent
-  else if not (stands (d.special ++ d.nets) (record { comp = comp; pin = pin; net = from })) then Some NotOnNet
-  else if not (has_net d to) then Some UnknownNet
-  else None
+    if not (has_comp d comp) then Some UnknownComponent
+    else if not (stands (d.special ++ d.nets) (record { comp = comp; pin = pin; net = from })) then Some NotOnNet
+    else if not (has_net d to) then Some UnknownNet
+    else None
 
 -- What a move answered: the overlay of the one pin on its net, or the first reason against it, unless memory ran out.
 abbrev pub Moves : List ℕ → Design → List ℕ → List ℕ → List ℕ → List ℕ → Result (List Edit) MoveFault → Type 0

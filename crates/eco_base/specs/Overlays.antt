@@ -29,9 +29,9 @@ moved_text text n comes s = statement_text text (stays_on (n ∷ []) s.name.byte
 -- The edit of a statement of NETS where one pin is put on its net: none where nothing changes. The pin comes new to its net where it doesn't stand there.
 abbrev pub move_edits : List ℕ → NewJoint → Bool → said.Net → List Edit
 move_edits text n stands s =
-  let comes = not stands && bytes_eq s.name.bytes n.net in
-  if list_all (λ j. stays_on (n ∷ []) s.name.bytes (joint_names j)) s.joints && not comes then []
-  else record { start = s.start; end = s.end; bytes = moved_text text n comes s } ∷ []
+    let comes = not stands && bytes_eq s.name.bytes n.net in
+    if list_all (λ j. stays_on (n ∷ []) s.name.bytes (joint_names j)) s.joints && not comes then []
+    else record { start = s.start; end = s.end; bytes = moved_text text n comes s } ∷ []
 
 -- the overlay was made for the text and its design
 abbrev pub IsMadeFor : List ℕ → Design → List Edit → Type 0

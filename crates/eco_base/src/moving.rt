@@ -230,7 +230,15 @@ pub fn move_joint(
     if !knows_comp(text, design.comps.as_slice(), comp) {
         return Err(MoveFault::UnknownComponent);
     }
-    if !stands(text, nets, &PinMove { comp, pin, net: from }) {
+    if !stands(
+        text,
+        nets,
+        &PinMove {
+            comp,
+            pin,
+            net: from,
+        },
+    ) {
         return Err(MoveFault::NotOnNet);
     }
     if !knows_net(text, nets, to) {

@@ -65,11 +65,18 @@ fn moved(
 fn one_pin_moved_and_all_else_as_it_was(rt: HostRuntime) -> Result<(), Fail> {
     let alloc = rt.alloc();
     let wanted = TEXT
-        .replace(alloc, "- n1 ( u1 Y ) ( u2 A ) + ROUTED M1 ( 1000 1000 ) ( 3000 * ) ;", "- n1 ( u1 Y ) ( u2 A ) ( r1 D ) ;")?
+        .replace(
+            alloc,
+            "- n1 ( u1 Y ) ( u2 A ) + ROUTED M1 ( 1000 1000 ) ( 3000 * ) ;",
+            "- n1 ( u1 Y ) ( u2 A ) ( r1 D ) ;",
+        )?
         .replace(alloc, "- n2 ( u2 Y ) ( r1 D ) ;", "- n2 ( u2 Y ) ;")?;
     assert_eq!(rt; moved(&rt, alloc, TEXT, ["r1", "D", "n2", "n1"])?, wanted);
     assert_eq!(rt; wanted.len() + 37, TEXT.len());
-    assert_eq!(rt; moved(&rt, alloc, TEXT, ["r1", "D", "n2", "n2"])?.as_str(), TEXT);
+    assert_eq!(rt;
+        moved(&rt, alloc, TEXT, ["r1", "D", "n2", "n2"])?.as_str(),
+        TEXT
+    );
     Ok(())
 }
 
@@ -93,12 +100,17 @@ fn moves_that_are_refused(rt: HostRuntime) -> Result<(), Fail> {
 
 #[test]
 fn statements_as_tools_write_them(rt: HostRuntime) -> Result<(), Fail> {
-    let text = "UNITS DISTANCE MICRONS 1 ; COMPONENTS 2 ; - u/1 INV ; - u\\[2\\] INV ; END COMPONENTS\r\n\
+    let text =
+        "UNITS DISTANCE MICRONS 1 ; COMPONENTS 2 ; - u/1 INV ; - u\\[2\\] INV ; END COMPONENTS\r\n\
         NETS 3 ; - a[0]\r\n\t( u/1 A # here\n ) ( u\\[2\\] A + SYNTHESIZED ) ( u/1 B ) + USE SIGNAL + ROUTED M1 ( 0 0 ) ;\n\
         - b ( u/1 A ) + USE CLOCK ; - c ; END NETS END DESIGN";
-    let wanted = "UNITS DISTANCE MICRONS 1 ; COMPONENTS 2 ; - u/1 INV ; - u\\[2\\] INV ; END COMPONENTS\r\n\
+    let wanted =
+        "UNITS DISTANCE MICRONS 1 ; COMPONENTS 2 ; - u/1 INV ; - u\\[2\\] INV ; END COMPONENTS\r\n\
         NETS 3 ; - a[0] ( u\\[2\\] A + SYNTHESIZED ) ( u/1 B ) + USE SIGNAL ;\n\
         - b + USE CLOCK ; - c ( u/1 A ) ; END NETS END DESIGN";
-    assert_eq!(rt; moved(&rt, rt.alloc(), text, ["u/1", "A", "a[0]", "c"])?.as_str(), wanted);
+    assert_eq!(rt;
+        moved(&rt, rt.alloc(), text, ["u/1", "A", "a[0]", "c"])?.as_str(),
+        wanted
+    );
     Ok(())
 }

@@ -9,46 +9,46 @@ use Rattle.eco_base.proofs.moving.move_joint.Goals as goal
 
 pub returns-then-not-knows_comp-clause-moves : goal.returns-then-not-knows_comp-clause-moves
 returns-then-not-knows_comp-clause-moves c =
-  let text = c.args.text.now in
-  let d = c.args.design.now in
-  no_comp (names_of (design_in text d)) c.args.comp.now c.args.pin.now c.args.from.now c.args.to.now
+    let text = c.args.text.now in
+    let d = c.args.design.now in
+    no_comp (names_of (design_in text d)) c.args.comp.now c.args.pin.now c.args.from.now c.args.to.now
     (has_comp_is text c.args.comp.now d ∙ sym (rw c.as_slice.ensures at c.knows_comp.ensures) ∙ c.if-not-knows_comp.true)
 
 pub returns-then-not-stands-clause-moves : goal.returns-then-not-stands-clause-moves
 returns-then-not-stands-clause-moves c =
-  let text = c.args.text.now in
-  let d = c.args.design.now in
-  let n : NewJoint = record { comp = c.args.comp.now; pin = c.args.pin.now; net = c.args.from.now } in
-  not_on_net (names_of (design_in text d)) c.args.comp.now c.args.pin.now c.args.from.now c.args.to.now
+    let text = c.args.text.now in
+    let d = c.args.design.now in
+    let n : NewJoint = record { comp = c.args.comp.now; pin = c.args.pin.now; net = c.args.from.now } in
+    not_on_net (names_of (design_in text d)) c.args.comp.now c.args.pin.now c.args.from.now c.args.to.now
     (has_comp_is text c.args.comp.now d ∙ sym (rw c.as_slice.ensures at c.knows_comp.ensures) ∙ c.if-not-knows_comp.false)
     (all_stands_is text n d c.requires.lies.ordinary ∙ sym (rw c.as_slice-nets.ensures at c.stands.ensures) ∙ c.if-not-stands.true)
 
 pub returns-then-not-knows_net-clause-moves : goal.returns-then-not-knows_net-clause-moves
 returns-then-not-knows_net-clause-moves c =
-  let text = c.args.text.now in
-  let d = c.args.design.now in
-  let n : NewJoint = record { comp = c.args.comp.now; pin = c.args.pin.now; net = c.args.from.now } in
-  no_net (names_of (design_in text d)) c.args.comp.now c.args.pin.now c.args.from.now c.args.to.now
+    let text = c.args.text.now in
+    let d = c.args.design.now in
+    let n : NewJoint = record { comp = c.args.comp.now; pin = c.args.pin.now; net = c.args.from.now } in
+    no_net (names_of (design_in text d)) c.args.comp.now c.args.pin.now c.args.from.now c.args.to.now
     (has_comp_is text c.args.comp.now d ∙ sym (rw c.as_slice.ensures at c.knows_comp.ensures) ∙ c.if-not-knows_comp.false)
     (all_stands_is text n d c.requires.lies.ordinary ∙ sym (rw c.as_slice-nets.ensures at c.stands.ensures) ∙ c.if-not-stands.false)
     (has_net_is text c.args.to.now d c.requires.lies.ordinary c.requires.lies.no_pins ∙ sym (rw c.as_slice-nets.ensures at c.knows_net.ensures) ∙ c.if-not-knows_net.true)
 
 pub returns-clause-moves : goal.returns-clause-moves
 returns-clause-moves c =
-  let text = c.args.text.now in
-  let d = c.args.design.now in
-  let n : NewJoint = record { comp = c.args.comp.now; pin = c.args.pin.now; net = c.args.from.now } in
-  let m : NewJoint = record { comp = c.args.comp.now; pin = c.args.pin.now; net = c.args.to.now } in
-  ( no_fault (names_of (design_in text d)) c.args.comp.now c.args.pin.now c.args.from.now c.args.to.now
-      (has_comp_is text c.args.comp.now d ∙ sym (rw c.as_slice.ensures at c.knows_comp.ensures) ∙ c.if-not-knows_comp.false)
-      (all_stands_is text n d c.requires.lies.ordinary ∙ sym (rw c.as_slice-nets.ensures at c.stands.ensures) ∙ c.if-not-stands.false)
-      (has_net_is text c.args.to.now d c.requires.lies.ordinary c.requires.lies.no_pins ∙ sym (rw c.as_slice-nets.ensures at c.knows_net.ensures) ∙ c.if-not-knows_net.false)
-  , moved_overlay text d m _ c.requires.lies (rw c.as_slice-nets.ensures at c.in_ok-overlay_of.ensures)
-  )
+    let text = c.args.text.now in
+    let d = c.args.design.now in
+    let n : NewJoint = record { comp = c.args.comp.now; pin = c.args.pin.now; net = c.args.from.now } in
+    let m : NewJoint = record { comp = c.args.comp.now; pin = c.args.pin.now; net = c.args.to.now } in (
+      no_fault (names_of (design_in text d)) c.args.comp.now c.args.pin.now c.args.from.now c.args.to.now
+          (has_comp_is text c.args.comp.now d ∙ sym (rw c.as_slice.ensures at c.knows_comp.ensures) ∙ c.if-not-knows_comp.false)
+          (all_stands_is text n d c.requires.lies.ordinary ∙ sym (rw c.as_slice-nets.ensures at c.stands.ensures) ∙ c.if-not-stands.false)
+          (has_net_is text c.args.to.now d c.requires.lies.ordinary c.requires.lies.no_pins ∙ sym (rw c.as_slice-nets.ensures at c.knows_net.ensures) ∙ c.if-not-knows_net.false),
+      moved_overlay text d m _ c.requires.lies (rw c.as_slice-nets.ensures at c.in_ok-overlay_of.ensures),
+    )
 
 pub returns-clause-made : goal.returns-clause-made
 returns-clause-made c =
-  let text = c.args.text.now in
-  let d = c.args.design.now in
-  let m : NewJoint = record { comp = c.args.comp.now; pin = c.args.pin.now; net = c.args.to.now } in
-  (m ∷ [], [], moved_overlay text d m _ c.requires.lies (rw c.as_slice-nets.ensures at c.in_ok-overlay_of.ensures))
+    let text = c.args.text.now in
+    let d = c.args.design.now in
+    let m : NewJoint = record { comp = c.args.comp.now; pin = c.args.pin.now; net = c.args.to.now } in
+    (m ∷ [], [], moved_overlay text d m _ c.requires.lies (rw c.as_slice-nets.ensures at c.in_ok-overlay_of.ensures))

@@ -9,6 +9,6 @@ use Rattle.eco_base.proofs.moving.put_joints.Goals as goal
 
 pub returns : goal.returns
 returns c =
-  let text = c.args.text.now in
-  c.loop-joint.invariant
-  ∙ ap (λ js. c.args.bytes.now.items ++ flat_map (λ j. kept_text text (stays_on (new_joint c.args.pin.now ∷ []) c.args.net.now) (joint_in text j)) js) (take_all c.loop-joint.joint-index c.args.joints.now c.loop-joint-test.false)
+    let text = c.args.text.now in
+    c.loop-joint.invariant
+    ∙ ap (λ js. c.args.bytes.now.items ++ flat_map (λ j. kept_text text (stays_on (new_joint c.args.pin.now ∷ []) c.args.net.now) (joint_in text j)) js) (take_all c.loop-joint.joint-index c.args.joints.now c.loop-joint-test.false)
