@@ -1,0 +1,83 @@
+//! Starting a journal, and ending it.
+ghost use Rattle.std.specs.Prelude.{◌≡◌, ◌≢◌, ◌+◌, ◌<◌, ◌≤◌, ◌^◌, [], ◌∷◌, ◌++◌, List, ℕ, Some, None, true, false, length, IfOk, IfErr, OnOk, MatchResult, IsFalse, IsErrOf, ⊤};
+ghost use Rattle.eco_disk.specs.Disk.{OnTold, GoesOn, Has, During, Rose};
+ghost use Rattle.eco_journal.specs.Layout.{IsWhole, bad_record, entries, StoresOr};
+ghost use Rattle.eco_journal.specs.Steps.{BadAt};
+ghost use Rattle.eco_journal.specs.Sound.{Sound, IsSound, Keeps, Settles};
+ghost use Rattle.eco_journal.specs.declared.standing.Standing.TheVariants.{Settled, AtGate};
+ghost use Rattle.eco_journal.specs.Start.{Starts};
+ghost use Rattle.eco_journal.specs.Opening.{DiffersAt, IsFound, IsDiskOrMemory, Begins, FindsSound};
+
+use crate::entry::Entry;
+use crate::faults::JournalFault;
+use crate::found::Found;
+use crate::journal::Journal;
+use crate::look::look;
+use eco_disk::Disk;
+use std::alloc::Global;
+
+// Keeps the disk as it is, and then looks at it.
+fn open<D: Disk>(alloc: Global, disk: &mut D, digest: &[u8; 32]) -> Result<Found, JournalFault>
+    ensures crash { (bytes : List ℕ) (payloads : List (List ℕ)) → D.contents disk.old ≡ Some bytes → entries bytes ≡ Some payloads → Has (D.contents disk.old) (D.image disk.old (D.moment disk.old)) (IsWhole digest.now)
+        → Begins (IfErr result (λ e. e ≢ JournalFault.Disk)) digest.now bytes payloads (D.moment disk.old) (D.moment disk.new) (D.image disk.old) (D.image disk.new)
+        × IfOk result (λ f. FindsSound digest.now bytes payloads (D.contents disk.new) (D.image disk.new (D.moment disk.new)) f)
+        × IfErr result IsDiskOrMemory }
+    ensures room { IfOk result (λ f. f.gate + 1 < 2 ^ 64) }
+    ensures lies { IfOk result (λ f. OnTold (D.contents disk.new) (λ bytes. f.gate + 1 ≤ length bytes)) }
+    ensures ends { IfOk result (λ f. f.standing ≡ AtGate → IsFalse f.follows → OnTold (D.contents disk.new) (λ bytes. length bytes ≤ f.gate + 1)) }
+    ensures found { IfOk result (λ f. OnTold (D.contents disk.old) (λ bytes. IsFound bytes f)) }
+    ensures bad { IfErr result (λ e. OnTold (D.contents disk.old) (λ bytes. BadAt (λ place. bad_record bytes ≡ Some place) e)) }
+    ensures differs { IfErr result (λ e. OnTold (D.contents disk.old) (λ bytes. DiffersAt bytes digest.now e)) }
+    ensures told { GoesOn (D.contents disk.old) (D.contents disk.new) (λ _ _. ⊤) }
+    ensures count { D.faults disk.old ≤ D.faults disk.new }
+    ensures cause { IfErr result (λ e. e ≡ JournalFault.Disk → Rose (D.faults disk.old) (D.faults disk.new)) }
+{
+    disk.sync()?;
+    look(alloc, disk, digest)
+}
+
+// Takes away what stands behind the gate.
+fn tidied<D: Disk>(disk: D, found: Found) -> Result<(Journal<D>, Vec<Entry>), (D, JournalFault)>
+    requires room { found.gate + 1 < 2 ^ 64 }
+    requires lies { OnTold (D.contents disk) (λ bytes. found.gate + 1 ≤ length bytes) }
+    requires ends { found.standing ≡ AtGate → IsFalse found.follows → OnTold (D.contents disk) (λ bytes. length bytes ≤ found.gate + 1) }
+    ensures crash { (digest : List ℕ) (payloads : List (List ℕ)) (last : List ℕ) → IsSound digest payloads last (D.contents disk) (D.image disk (D.moment disk)) found.gate found.standing → Settles found.standing digest payloads last disk result }
+    ensures settled { IfOk result (λ r. r.0.standing ≡ Settled) }
+    ensures entries { IfOk result (λ r. r.1 ≡ found.entries) }
+    ensures fault { IfErr result (λ e. (e.1 ≡ JournalFault.Disk) × Rose (D.faults disk) (D.faults e.0)) }
+    ensures count { MatchResult result (λ r. D.faults disk ≤ D.faults r.0.disk) (λ e. D.faults disk ≤ D.faults e.0) }
+    ensures told { MatchResult result (λ r. GoesOn (D.contents disk) (D.contents r.0.disk) (λ _ _. ⊤)) (λ e. GoesOn (D.contents disk) (D.contents e.0) (λ _ _. ⊤)) }
+{
+    let mut journal = Journal {
+        disk,
+        gate: found.gate,
+        standing: found.standing,
+    };
+    match journal.settle(found.follows) {
+        Ok(()) => Ok((journal, found.entries)),
+        Err(_) => Err((journal.end(), JournalFault::Disk)),
+    }
+}
+
+impl<D: Disk> Journal<D> {
+    /// Opens a journal, or makes one on a disk without a header. A refusal hands the disk back.
+    pub fn start(
+        alloc: Global,
+        mut disk: D,
+        digest: [u8; 32],
+    ) -> Result<(Journal<D>, Vec<Entry>), (D, JournalFault)>
+        ensures crash { (bytes : List ℕ) (payloads : List (List ℕ)) → D.contents disk ≡ Some bytes → entries bytes ≡ Some payloads → Has (D.contents disk) (D.image disk (D.moment disk)) (IsWhole digest) → Starts digest bytes payloads disk result }
+        ensures whole { IfOk result (λ r. r.0.standing ≡ Settled) }
+        ensures entries { IfOk result (λ r. OnTold (D.contents disk) (λ bytes. entries bytes ≡ Some r.1.items)) }
+        ensures bad { IfErr result (λ e. OnTold (D.contents disk) (λ bytes. BadAt (λ place. bad_record bytes ≡ Some place) e.1)) }
+        ensures differs { IfErr result (λ e. OnTold (D.contents disk) (λ bytes. DiffersAt bytes digest e.1)) }
+        ensures told { MatchResult result (λ r. GoesOn (D.contents disk) (D.contents r.0.disk) (λ _ _. ⊤)) (λ e. GoesOn (D.contents disk) (D.contents e.0) (λ _ _. ⊤)) }
+        ensures count { MatchResult result (λ r. D.faults disk ≤ D.faults r.0.disk) (λ e. D.faults disk ≤ D.faults e.0) }
+        ensures cause { IfErr result (λ e. e.1 ≡ JournalFault.Disk → Rose (D.faults disk) (D.faults e.0)) }
+    {
+        match open(alloc, &mut disk, &digest) {
+            Ok(found) => tidied(disk, found),
+            Err(fault) => Err((disk, fault)),
+        }
+    }
+}
