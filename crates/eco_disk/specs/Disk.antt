@@ -38,6 +38,10 @@ pub record Passes (before now : ℕ) (past present : ℕ → List ℕ → Type 0
   pub keeps : (t : ℕ) (c : List ℕ) → t ≤ before → past t c → present t c
   pub each : (t : ℕ) (c : List ℕ) → before < t → t ≤ now → present t c → (d : List ℕ) × past before d × step d c
 
+-- the images of a disk after a call come from those before it by a step
+abbrev pub Follows : {D : Type 0} → (D → ℕ) → (D → ℕ → List ℕ → Type 0) → D → D → (List ℕ → List ℕ → Type 0) → Type 0
+Follows moment image old new step = Passes (moment old) (moment new) (image old) (image new) step
+
 -- a crash leaves this and nothing else
 abbrev pub Only : List ℕ → (List ℕ → Type 0) → Type 0
 Only bytes leaves = (c : List ℕ) → leaves c → c ≡ bytes
@@ -68,3 +72,10 @@ pub record Has (contents : Option (List ℕ)) (leaves : List ℕ → Type 0) (P 
   pub told : contents ≡ Some bytes
   pub form : P bytes
   pub each : (c : List ℕ) → leaves c → P c
+
+-- the same of a disk, from before a call to after it
+abbrev pub LeavesOnly : {D : Type 0} → (D → ℕ) → (D → ℕ → List ℕ → Type 0) → D → D → (List ℕ → Type 0) → Type 0
+LeavesOnly moment image old new P = During (moment old) (moment new) (image old) (image new) P
+
+abbrev pub Holds : {D : Type 0} → (D → Option (List ℕ)) → (D → ℕ) → (D → ℕ → List ℕ → Type 0) → D → (List ℕ → Type 0) → Type 0
+Holds contents moment image disk P = Has (contents disk) (image disk (moment disk)) P

@@ -5,4 +5,5 @@ pub mod Counter
 pub mod Replay
 pub mod Images
 pub mod Tape
+pub mod Moments
 pub mod MemoryDisk

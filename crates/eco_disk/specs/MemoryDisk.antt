@@ -1,9 +1,12 @@
 -- What a disk in memory shows, and what each of its calls answers.
-use Rattle.std.specs.Prelude.{◌≡◌, ◌⊎◌, ℕ, Bool, true, false, List, [], ◌∷◌, ◌++◌, Result, OnOk, OnErr}
+use Rattle.std.specs.Prelude.{◌≡◌, ◌⊎◌, ℕ, Bool, true, false, Option, Some, List, [], ◌∷◌, ◌++◌, Result, OnOk, OnErr}
 use Rattle.eco_disk.specs.declared.memory_disk.MemoryDisk.{MemoryDisk}
 use Rattle.eco_disk.specs.declared.call.Call.{Call}
 use Rattle.eco_disk.specs.declared.call.Call.TheVariants.{Refused}
 use Rattle.eco_disk.specs.Contents.{first_of, kept_of}
+use Rattle.eco_disk.specs.Moments.{moment_of, image_of}
+use Rattle.eco_disk.specs.Replay.{made}
+use Rattle.eco_disk.specs.Tape.{kept_by}
 use Rattle.eco_disk.specs.Counter.{next, is_listed}
 
 -- what a read gives
@@ -21,6 +24,17 @@ first_bytes disk = first_of disk.tape.contents
 -- its calls, those aside that found no memory
 abbrev pub calls_of : MemoryDisk → List Call
 calls_of disk = disk.tape.calls.items
+
+-- it tells them
+abbrev pub contents : MemoryDisk → Option (List ℕ)
+contents disk = Some (bytes_of disk)
+
+-- the clock, and what a crash at a moment may leave
+abbrev pub moment : MemoryDisk → ℕ
+moment disk = moment_of disk.tape
+
+abbrev pub image : MemoryDisk → ℕ → List ℕ → Type 0
+image disk = image_of disk.tape
 
 -- how many calls failed
 abbrev pub faults_of : MemoryDisk → ℕ
@@ -50,9 +64,11 @@ pub record Fails (old new : MemoryDisk) : Type 0 where
   pub why : ((is_next_listed old ≡ true) × (calls_of new ≡ calls_of old ++ Refused ∷ []) × (starved_of new ≡ starved_of old))
       ⊎ ((calls_of new ≡ calls_of old) × (starved_of new ≡ next (starved_of old)))
 
--- A call that succeeds wasn't to fail.
+-- A call that succeeds wasn't to fail, and is made whole.
 pub record Succeeds (call : Call) (old new : MemoryDisk) : Type 0 where
   pub not_listed : is_next_listed old ≡ false
+  pub bytes : bytes_of new ≡ made call (bytes_of old)
+  pub synced : synced_of new ≡ kept_by call (bytes_of old) (synced_of old)
   pub calls : calls_of new ≡ calls_of old ++ call ∷ []
   pub faults : faults_of new ≡ faults_of old
   pub starved : starved_of new ≡ starved_of old

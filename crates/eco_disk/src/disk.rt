@@ -1,6 +1,6 @@
 //! A disk as a journal sees it: what a read gives, what a crash may leave, and how often it has failed.
 ghost use Rattle.std.specs.Prelude.{◌≡◌, ◌≤◌, ◌+◌, List, ℕ, Option, Some, length, slice_range, take, IfOk, OnOk};
-ghost use Rattle.eco_disk.specs.Disk.{OnTold, GoesOn, written, Torn, Cut, Same, Passes, IsKept, HasCause};
+ghost use Rattle.eco_disk.specs.Disk.{OnTold, GoesOn, written, Torn, Cut, Same, Follows, IsKept, HasCause};
 
 use std::error::Error;
 use std::fmt::{self, Display, Formatter, Write};
@@ -38,7 +38,7 @@ pub trait Disk {
     fn len(&mut self) -> Result<u64, Failed>
         ensures len { IfOk result (λ n. OnTold (contents self.old) (λ bytes. n ≡ length bytes)) }
         ensures contents { contents self.new ≡ contents self.old }
-        ensures crash { Passes (moment self.old) (moment self.new) (image self.old) (image self.new) Same }
+        ensures crash { Follows moment image self.old self.new Same }
         ensures cause { HasCause (faults self.old) (faults self.new) result };
 
     /// Reads as many bytes as the piece has.
@@ -46,7 +46,7 @@ pub trait Disk {
         requires { OnTold (contents self.old) (λ bytes. at + length piece.old ≤ length bytes) }
         ensures read { OnOk result (OnTold (contents self.old) (λ bytes. piece.new ≡ slice_range bytes at (at + length piece.old))) }
         ensures contents { contents self.new ≡ contents self.old }
-        ensures crash { Passes (moment self.old) (moment self.new) (image self.old) (image self.new) Same }
+        ensures crash { Follows moment image self.old self.new Same }
         ensures cause { HasCause (faults self.old) (faults self.new) result };
 
     /// Writes a piece over what is there, and beyond its end. A write that fails may have been made whole, in part or
@@ -55,7 +55,7 @@ pub trait Disk {
         requires { OnTold (contents self.old) (λ bytes. at ≤ length bytes) }
         ensures written { OnOk result (GoesOn (contents self.old) (contents self.new) (λ old new. new ≡ written at piece.now old)) }
         ensures contents { GoesOn (contents self.old) (contents self.new) (Torn at (length piece.now)) }
-        ensures crash { Passes (moment self.old) (moment self.new) (image self.old) (image self.new) (Torn at (length piece.now)) }
+        ensures crash { Follows moment image self.old self.new (Torn at (length piece.now)) }
         ensures cause { HasCause (faults self.old) (faults self.new) result };
 
     /// Cuts what stands behind a length. A cut that fails may have been made whole, in part or not at all.
@@ -63,14 +63,14 @@ pub trait Disk {
         requires { OnTold (contents self.old) (λ bytes. len ≤ length bytes) }
         ensures cut { OnOk result (GoesOn (contents self.old) (contents self.new) (λ old new. new ≡ take len old)) }
         ensures contents { GoesOn (contents self.old) (contents self.new) (Cut len) }
-        ensures crash { Passes (moment self.old) (moment self.new) (image self.old) (image self.new) (Cut len) }
+        ensures crash { Follows moment image self.old self.new (Cut len) }
         ensures cause { HasCause (faults self.old) (faults self.new) result };
 
     /// Keeps what a read gives: from Ok on a crash leaves nothing else.
     fn sync(&mut self) -> Result<(), Failed>
         ensures kept { OnOk result (IsKept (contents self.new) (image self.new (moment self.new))) }
         ensures contents { contents self.new ≡ contents self.old }
-        ensures crash { Passes (moment self.old) (moment self.new) (image self.old) (image self.new) Same }
+        ensures crash { Follows moment image self.old self.new Same }
         ensures cause { HasCause (faults self.old) (faults self.new) result };
 
     /// What a read gives is one of the images.

@@ -1,7 +1,6 @@
 //! A disk in memory.
 ghost use Rattle.std.specs.Prelude.{◌≡◌, ◌≤◌, ◌+◌, [], length, slice_range, take, Some, IfOk, OnOk};
-ghost use Rattle.eco_disk.specs.Disk.{OnTold, GoesOn, written, Torn, Cut, Same, Passes, Only, HasCause};
-ghost use Rattle.eco_disk.specs.Replay.{made_all, image_at};
+ghost use Rattle.eco_disk.specs.Disk.{OnTold, GoesOn, written, Torn, Cut, Same, Follows, IsKept, HasCause};
 ghost use Rattle.eco_disk.specs.declared.call.Call.TheVariants.{Len, Read, Write, Sync};
 ghost use Rattle.eco_disk.specs.declared.call.Call.TheVariants as call;
 
@@ -86,24 +85,24 @@ impl MemoryDisk {
 }
 
 impl Disk for MemoryDisk {
-    ghost use Rattle.eco_disk.specs.MemoryDisk.{bytes_of, synced_of, first_bytes, calls_of, faults_of, Answers};
+    ghost use Rattle.eco_disk.specs.MemoryDisk.{first_bytes, faults_of, contents, moment, image, Answers};
     ghost use Rattle.eco_disk.specs.Images.{reads_now};
 
-    ghost contents = { λ d. Some (bytes_of d) };
+    ghost contents = { contents };
 
-    ghost moment = { λ d. length (calls_of d) };
+    ghost moment = { moment };
 
-    ghost image = { λ d t c. image_at (first_bytes d) (calls_of d) t c };
+    ghost image = { image };
 
-    ghost faults = { λ d. faults_of d };
+    ghost faults = { faults_of };
 
     ghost reads_an_image = { λ d bytes told. reads_now d.tape.calls.items (first_bytes d) d.tape.contents.bytes.items bytes d.tape.replayed told };
 
     fn len(&mut self) -> Result<u64, Failed>
         ensures answers { Answers Len self.old self.new result }
-        ensures len { IfOk result (λ n. n ≡ length (bytes_of self.old)) }
-        ensures contents { Some (bytes_of self.new) ≡ Some (bytes_of self.old) }
-        ensures crash { Passes (length (calls_of self.old)) (length (calls_of self.new)) (image_at (first_bytes self.old) (calls_of self.old)) (image_at (first_bytes self.new) (calls_of self.new)) Same }
+        ensures len { IfOk result (λ n. OnTold (contents self.old) (λ bytes. n ≡ length bytes)) }
+        ensures contents { contents self.new ≡ contents self.old }
+        ensures crash { Follows moment image self.old self.new Same }
         ensures cause { HasCause (faults_of self.old) (faults_of self.new) result }
     {
         let listed = self.counter.next();
@@ -113,11 +112,11 @@ impl Disk for MemoryDisk {
     }
 
     fn read(&mut self, at: u64, piece: &mut [u8]) -> Result<(), Failed>
-        requires { at + length piece.old ≤ length (bytes_of self.old) }
+        requires { OnTold (contents self.old) (λ bytes. at + length piece.old ≤ length bytes) }
         ensures answers { Answers (Read at (length piece.old)) self.old self.new result }
-        ensures read { OnOk result (piece.new ≡ slice_range (bytes_of self.old) at (at + length piece.old)) }
-        ensures contents { Some (bytes_of self.new) ≡ Some (bytes_of self.old) }
-        ensures crash { Passes (length (calls_of self.old)) (length (calls_of self.new)) (image_at (first_bytes self.old) (calls_of self.old)) (image_at (first_bytes self.new) (calls_of self.new)) Same }
+        ensures read { OnOk result (OnTold (contents self.old) (λ bytes. piece.new ≡ slice_range bytes at (at + length piece.old))) }
+        ensures contents { contents self.new ≡ contents self.old }
+        ensures crash { Follows moment image self.old self.new Same }
         ensures cause { HasCause (faults_of self.old) (faults_of self.new) result }
     {
         let listed = self.counter.next();
@@ -130,11 +129,11 @@ impl Disk for MemoryDisk {
     }
 
     fn write_at(&mut self, at: u64, piece: &[u8]) -> Result<(), Failed>
-        requires { at ≤ length (bytes_of self.old) }
+        requires { OnTold (contents self.old) (λ bytes. at ≤ length bytes) }
         ensures answers { Answers (Write at piece.now) self.old self.new result }
-        ensures written { OnOk result (GoesOn (Some (bytes_of self.old)) (Some (bytes_of self.new)) (λ old new. new ≡ written at piece.now old)) }
-        ensures contents { GoesOn (Some (bytes_of self.old)) (Some (bytes_of self.new)) (Torn at (length piece.now)) }
-        ensures crash { Passes (length (calls_of self.old)) (length (calls_of self.new)) (image_at (first_bytes self.old) (calls_of self.old)) (image_at (first_bytes self.new) (calls_of self.new)) (Torn at (length piece.now)) }
+        ensures written { OnOk result (GoesOn (contents self.old) (contents self.new) (λ old new. new ≡ written at piece.now old)) }
+        ensures contents { GoesOn (contents self.old) (contents self.new) (Torn at (length piece.now)) }
+        ensures crash { Follows moment image self.old self.new (Torn at (length piece.now)) }
         ensures cause { HasCause (faults_of self.old) (faults_of self.new) result }
     {
         let listed = self.counter.next();
@@ -143,11 +142,11 @@ impl Disk for MemoryDisk {
     }
 
     fn cut(&mut self, len: u64) -> Result<(), Failed>
-        requires { len ≤ length (bytes_of self.old) }
+        requires { OnTold (contents self.old) (λ bytes. len ≤ length bytes) }
         ensures answers { Answers (call.Cut len) self.old self.new result }
-        ensures cut { OnOk result (GoesOn (Some (bytes_of self.old)) (Some (bytes_of self.new)) (λ old new. new ≡ take len old)) }
-        ensures contents { GoesOn (Some (bytes_of self.old)) (Some (bytes_of self.new)) (Cut len) }
-        ensures crash { Passes (length (calls_of self.old)) (length (calls_of self.new)) (image_at (first_bytes self.old) (calls_of self.old)) (image_at (first_bytes self.new) (calls_of self.new)) (Cut len) }
+        ensures cut { OnOk result (GoesOn (contents self.old) (contents self.new) (λ old new. new ≡ take len old)) }
+        ensures contents { GoesOn (contents self.old) (contents self.new) (Cut len) }
+        ensures crash { Follows moment image self.old self.new (Cut len) }
         ensures cause { HasCause (faults_of self.old) (faults_of self.new) result }
     {
         let listed = self.counter.next();
@@ -157,10 +156,9 @@ impl Disk for MemoryDisk {
 
     fn sync(&mut self) -> Result<(), Failed>
         ensures answers { Answers Sync self.old self.new result }
-        ensures synced { OnOk result (synced_of self.new ≡ bytes_of self.new) }
-        ensures kept { OnOk result (Only (bytes_of self.new) (image_at (first_bytes self.new) (calls_of self.new) (length (calls_of self.new)))) }
-        ensures contents { Some (bytes_of self.new) ≡ Some (bytes_of self.old) }
-        ensures crash { Passes (length (calls_of self.old)) (length (calls_of self.new)) (image_at (first_bytes self.old) (calls_of self.old)) (image_at (first_bytes self.new) (calls_of self.new)) Same }
+        ensures kept { OnOk result (IsKept (contents self.new) (image self.new (moment self.new))) }
+        ensures contents { contents self.new ≡ contents self.old }
+        ensures crash { Follows moment image self.old self.new Same }
         ensures cause { HasCause (faults_of self.old) (faults_of self.new) result }
     {
         let listed = self.counter.next();

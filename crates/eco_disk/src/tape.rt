@@ -2,9 +2,9 @@
 ghost use Rattle.std.specs.Prelude.{◌≡◌, ◌≤◌, ◌<◌, length, IsTrue, OnOk, vec_len, vec_capacity};
 ghost use Rattle.eco_disk.specs.declared.call.Call.TheVariants.{Write, Sync};
 ghost use Rattle.eco_disk.specs.declared.call.Call.TheVariants as call;
-ghost use Rattle.eco_disk.specs.Disk.{Torn, Cut, Same, Passes, Only};
+ghost use Rattle.eco_disk.specs.Disk.{Torn, Cut, Same, Follows, Only};
 ghost use Rattle.eco_disk.specs.Contents.{first_of};
-ghost use Rattle.eco_disk.specs.Replay.{made_all, image_at};
+ghost use Rattle.eco_disk.specs.Replay.{made_all};
 ghost use Rattle.eco_disk.specs.Tape.{Begins, Plays, IsLook};
 
 use crate::call::{Call, Piece};
@@ -88,12 +88,14 @@ fn play_sync(contents: &mut Contents, calls: &mut Vec<Call>, listed: bool) -> Re
 }
 
 impl Tape {
+    ghost use Rattle.eco_disk.specs.Moments.{moment_of, image_of};
+
     /// A length or a read.
     pub fn look(&mut self, listed: bool, look: Call) -> Result<(), Cause>
         requires { IsLook look }
         ensures plays { Plays listed look self.old.contents self.new.contents self.old.calls.items self.new.calls.items result }
         ensures same { self.new.contents.bytes.items ≡ self.old.contents.bytes.items }
-        ensures crash { Passes (length self.old.calls.items) (length self.new.calls.items) (image_at (first_of self.old.contents) self.old.calls.items) (image_at (first_of self.new.contents) self.new.calls.items) Same }
+        ensures crash { Follows moment_of image_of self.old self.new Same }
     {
         play_look(&self.contents, &mut self.calls, listed, look)
     }
@@ -102,7 +104,7 @@ impl Tape {
         requires { at ≤ length self.old.contents.bytes.items }
         ensures plays { Plays listed (Write at piece.now) self.old.contents self.new.contents self.old.calls.items self.new.calls.items result }
         ensures torn { Torn at (length piece.now) self.old.contents.bytes.items self.new.contents.bytes.items }
-        ensures crash { Passes (length self.old.calls.items) (length self.new.calls.items) (image_at (first_of self.old.contents) self.old.calls.items) (image_at (first_of self.new.contents) self.new.calls.items) (Torn at (length piece.now)) }
+        ensures crash { Follows moment_of image_of self.old self.new (Torn at (length piece.now)) }
     {
         play_write(&mut self.contents, &mut self.calls, listed, at, piece)
     }
@@ -111,7 +113,7 @@ impl Tape {
         requires { len ≤ length self.old.contents.bytes.items }
         ensures plays { Plays listed (call.Cut len) self.old.contents self.new.contents self.old.calls.items self.new.calls.items result }
         ensures cut { Cut len self.old.contents.bytes.items self.new.contents.bytes.items }
-        ensures crash { Passes (length self.old.calls.items) (length self.new.calls.items) (image_at (first_of self.old.contents) self.old.calls.items) (image_at (first_of self.new.contents) self.new.calls.items) (Cut len) }
+        ensures crash { Follows moment_of image_of self.old self.new (Cut len) }
     {
         play_cut(&mut self.contents, &mut self.calls, listed, len)
     }
@@ -119,8 +121,8 @@ impl Tape {
     pub fn sync(&mut self, listed: bool) -> Result<(), Cause>
         ensures plays { Plays listed Sync self.old.contents self.new.contents self.old.calls.items self.new.calls.items result }
         ensures same { self.new.contents.bytes.items ≡ self.old.contents.bytes.items }
-        ensures kept { OnOk result (Only self.new.contents.bytes.items (image_at (first_of self.new.contents) self.new.calls.items (length self.new.calls.items))) }
-        ensures crash { Passes (length self.old.calls.items) (length self.new.calls.items) (image_at (first_of self.old.contents) self.old.calls.items) (image_at (first_of self.new.contents) self.new.calls.items) Same }
+        ensures kept { OnOk result (Only self.new.contents.bytes.items (image_of self.new (moment_of self.new))) }
+        ensures crash { Follows moment_of image_of self.old self.new Same }
     {
         play_sync(&mut self.contents, &mut self.calls, listed)
     }

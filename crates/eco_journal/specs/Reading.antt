@@ -11,6 +11,9 @@ pub record OnlyReads (before now : Option (List ℕ)) (began ends : ℕ) (past p
   pub contents : now ≡ before
   pub crash : Passes began ends past present Same
 
+abbrev pub Looks : {D : Type 0} → (D → Option (List ℕ)) → (D → ℕ) → (D → ℕ → List ℕ → Type 0) → D → D → Type 0
+Looks contents moment image old new = OnlyReads (contents old) (contents new) (moment old) (moment new) (image old) (image new)
+
 abbrev pub entries_then : List (List ℕ) → Listed → Listed
 entries_then [] end = end
 entries_then (payload ∷ payloads) end = entry_then payload (entries_then payloads end)

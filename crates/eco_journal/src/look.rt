@@ -1,9 +1,9 @@
 //! Looking at a journal's disk.
 ghost use Rattle.std.specs.Prelude.{◌≡◌, ◌≢◌, ◌+◌, ◌<◌, ◌≤◌, ◌^◌, [], ◌∷◌, ◌++◌, List, ℕ, Some, None, true, false, length, IfOk, IfErr, OnOk, IsTrue, IsFalse, ⊤};
-ghost use Rattle.eco_disk.specs.Disk.{OnTold, GoesOn, Has, Rose};
+ghost use Rattle.eco_disk.specs.Disk.{OnTold, GoesOn, Holds, Rose};
 ghost use Rattle.eco_journal.specs.Layout.{IsWhole, bad_record, entries, is_fresh};
 ghost use Rattle.eco_journal.specs.Steps.{BadAt};
-ghost use Rattle.eco_journal.specs.Reading.{OnlyReads, standing_at};
+ghost use Rattle.eco_journal.specs.Reading.{Looks, standing_at};
 ghost use Rattle.eco_journal.specs.declared.opening.Beginning.TheVariants.{Fresh};
 ghost use Rattle.eco_journal.specs.declared.standing.Standing.TheVariants.{Settled, AtGate};
 ghost use Rattle.eco_journal.specs.Opening.{IsBeginning, DiffersAt, IsFound, Finds, IsDiskOrMemory};
@@ -24,7 +24,7 @@ fn make<D: Disk>(
     shut: bool,
 ) -> Result<Found, JournalFault>
     requires { IsTrue shut → OnTold (D.contents disk.old) (λ bytes. 1 ≤ length bytes) }
-    ensures crash { (bytes : List ℕ) → IsWhole digest.now bytes → IsBeginning bytes (Fresh shut) → Has (D.contents disk.old) (D.image disk.old (D.moment disk.old)) (λ c. c ≡ bytes)
+    ensures crash { (bytes : List ℕ) → IsWhole digest.now bytes → IsBeginning bytes (Fresh shut) → Holds D.contents D.moment D.image disk.old (λ c. c ≡ bytes)
         → Finds digest.now bytes [] (D.contents disk.new) (D.moment disk.old) (D.moment disk.new) (D.image disk.old) (D.image disk.new) result }
     ensures room { IfOk result (λ f. f.gate + 1 < 2 ^ 64) }
     ensures lies { IfOk result (λ f. OnTold (D.contents disk.new) (λ bytes. f.gate + 1 ≤ length bytes)) }
@@ -66,14 +66,14 @@ fn headed<D: Disk>(
     digest: &[u8; 32],
 ) -> Result<Found, JournalFault>
     requires { OnTold (D.contents disk.old) (λ bytes. len ≡ length bytes) }
-    ensures crash { (bytes : List ℕ) (payloads : List (List ℕ)) → IsWhole digest.now bytes → IsFalse (is_fresh bytes) → entries bytes ≡ Some payloads → Has (D.contents disk.old) (D.image disk.old (D.moment disk.old)) (λ c. c ≡ bytes)
+    ensures crash { (bytes : List ℕ) (payloads : List (List ℕ)) → IsWhole digest.now bytes → IsFalse (is_fresh bytes) → entries bytes ≡ Some payloads → Holds D.contents D.moment D.image disk.old (λ c. c ≡ bytes)
         → Finds digest.now bytes payloads (D.contents disk.new) (D.moment disk.old) (D.moment disk.new) (D.image disk.old) (D.image disk.new) result }
     ensures room { IfOk result (λ f. f.gate < len) }
     ensures ends { IfOk result (λ f. IsFalse f.follows → len ≤ f.gate + 1) }
     ensures found { IfOk result (λ f. OnTold (D.contents disk.old) (λ bytes. IsFalse (is_fresh bytes) → IsFound bytes f)) }
     ensures bad { IfErr result (λ e. OnTold (D.contents disk.old) (λ bytes. IsFalse (is_fresh bytes) → BadAt (λ place. bad_record bytes ≡ Some place) e)) }
     ensures differs { IfErr result (λ e. OnTold (D.contents disk.old) (λ bytes. DiffersAt bytes digest.now e)) }
-    ensures reads { OnlyReads (D.contents disk.old) (D.contents disk.new) (D.moment disk.old) (D.moment disk.new) (D.image disk.old) (D.image disk.new) }
+    ensures reads { Looks D.contents D.moment D.image disk.old disk.new }
     ensures count { D.faults disk.old ≤ D.faults disk.new }
     ensures cause { IfErr result (λ e. e ≡ JournalFault.Disk → Rose (D.faults disk.old) (D.faults disk.new)) }
 {
@@ -90,7 +90,7 @@ fn headed<D: Disk>(
 
 // What stands on a disk that was synced.
 pub fn look<D: Disk>(alloc: Global, disk: &mut D, digest: &[u8; 32]) -> Result<Found, JournalFault>
-    ensures crash { (bytes : List ℕ) (payloads : List (List ℕ)) → IsWhole digest.now bytes → entries bytes ≡ Some payloads → Has (D.contents disk.old) (D.image disk.old (D.moment disk.old)) (λ c. c ≡ bytes)
+    ensures crash { (bytes : List ℕ) (payloads : List (List ℕ)) → IsWhole digest.now bytes → entries bytes ≡ Some payloads → Holds D.contents D.moment D.image disk.old (λ c. c ≡ bytes)
         → Finds digest.now bytes payloads (D.contents disk.new) (D.moment disk.old) (D.moment disk.new) (D.image disk.old) (D.image disk.new) result }
     ensures room { IfOk result (λ f. f.gate + 1 < 2 ^ 64) }
     ensures lies { IfOk result (λ f. OnTold (D.contents disk.new) (λ bytes. f.gate + 1 ≤ length bytes)) }

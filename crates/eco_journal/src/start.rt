@@ -1,6 +1,6 @@
 //! Starting a journal, and ending it.
 ghost use Rattle.std.specs.Prelude.{◌≡◌, ◌≢◌, ◌+◌, ◌<◌, ◌≤◌, ◌^◌, [], ◌∷◌, ◌++◌, List, ℕ, Some, None, true, false, length, IfOk, IfErr, OnOk, MatchResult, IsFalse, IsErrOf, ⊤};
-ghost use Rattle.eco_disk.specs.Disk.{OnTold, GoesOn, Has, During, Rose};
+ghost use Rattle.eco_disk.specs.Disk.{OnTold, GoesOn, Holds, LeavesOnly, Rose};
 ghost use Rattle.eco_journal.specs.Layout.{IsWhole, bad_record, entries, StoresOr};
 ghost use Rattle.eco_journal.specs.Steps.{BadAt};
 ghost use Rattle.eco_journal.specs.Sound.{Sound, IsSound, Keeps, Settles};
@@ -18,7 +18,7 @@ use std::alloc::Global;
 
 // Keeps the disk as it is, and then looks at it.
 fn open<D: Disk>(alloc: Global, disk: &mut D, digest: &[u8; 32]) -> Result<Found, JournalFault>
-    ensures crash { (bytes : List ℕ) (payloads : List (List ℕ)) → D.contents disk.old ≡ Some bytes → entries bytes ≡ Some payloads → Has (D.contents disk.old) (D.image disk.old (D.moment disk.old)) (IsWhole digest.now)
+    ensures crash { (bytes : List ℕ) (payloads : List (List ℕ)) → D.contents disk.old ≡ Some bytes → entries bytes ≡ Some payloads → Holds D.contents D.moment D.image disk.old (IsWhole digest.now)
         → Begins (IfErr result (λ e. e ≢ JournalFault.Disk)) digest.now bytes payloads (D.moment disk.old) (D.moment disk.new) (D.image disk.old) (D.image disk.new)
         × IfOk result (λ f. FindsSound digest.now bytes payloads (D.contents disk.new) (D.image disk.new (D.moment disk.new)) f)
         × IfErr result IsDiskOrMemory }
@@ -66,7 +66,7 @@ impl<D: Disk> Journal<D> {
         mut disk: D,
         digest: [u8; 32],
     ) -> Result<(Journal<D>, Vec<Entry>), (D, JournalFault)>
-        ensures crash { (bytes : List ℕ) (payloads : List (List ℕ)) → D.contents disk ≡ Some bytes → entries bytes ≡ Some payloads → Has (D.contents disk) (D.image disk (D.moment disk)) (IsWhole digest) → Starts digest bytes payloads disk result }
+        ensures crash { (bytes : List ℕ) (payloads : List (List ℕ)) → D.contents disk ≡ Some bytes → entries bytes ≡ Some payloads → Holds D.contents D.moment D.image disk (IsWhole digest) → Starts digest bytes payloads disk result }
         ensures whole { IfOk result (λ r. r.0.standing ≡ Settled) }
         ensures entries { IfOk result (λ r. OnTold (D.contents disk) (λ bytes. entries bytes ≡ Some r.1.items)) }
         ensures bad { IfErr result (λ e. OnTold (D.contents disk) (λ bytes. BadAt (λ place. bad_record bytes ≡ Some place) e.1)) }
