@@ -5,7 +5,7 @@ use Rattle.std.specs.Str.{bytes_eq}
 use Rattle.std.proofs.lemmas.List.{drop_at, append-nil}
 use Rattle.std.proofs.lemmas.List.Concat.{flat_map-append}
 use Rattle.std.proofs.lemmas.Bool.{le-leb, lt-leb, and_right, cases_eq, ne_eqb}
-use Rattle.eco_journal.specs.Layout.{IsPayload, ArePayloads, IsHead, Stores, StoresOr, magic, entry, behind, front, listed, payloads_of, bad_place, is_fresh, has_header, entries, bad_record}
+use Rattle.eco_journal.specs.Layout.{IsWhole, IsPayload, ArePayloads, IsHead, Stores, StoresOr, magic, entry, behind, front, listed, payloads_of, bad_place, is_fresh, has_header, entries, bad_record}
 use Rattle.eco_journal.specs.Layout.IsTail.{closed, torn_gate}
 use Rattle.eco_journal.specs.Layout.IsWhole.{tiny, unopened, headed, listing}
 use Rattle.eco_journal.proofs.Entries.{listed_all, head_size}
@@ -118,3 +118,11 @@ stores_unopened digest rest short = record {
     or_true : (b : Bool) → (b || true) ≡ true
     or_true true = refl
     or_true false = refl
+
+-- whole bytes have entries
+pub whole_entries : (digest bytes : List ℕ) → IsWhole digest bytes → (payloads : List (List ℕ)) × (entries bytes ≡ Some payloads)
+whole_entries digest _ (tiny bytes short) = ([], (stores_tiny digest bytes short).entries_are)
+whole_entries digest _ (unopened rest short) = ([], (stores_unopened digest rest short).entries_are)
+whole_entries digest _ (headed gate head is) = ([], (stores_headed digest head is gate).entries_are)
+whole_entries digest _ (listing head payloads _ is are (closed rest)) = (payloads, (stores_closed digest head is payloads rest are).entries_are)
+whole_entries digest _ (listing head payloads _ is are (torn_gate gate payload shut one)) = (payloads, entries_shut digest head is payloads gate (behind payload) are shut)

@@ -8,7 +8,7 @@ use Rattle.eco_journal.specs.declared.opening.Beginning.{Beginning}
 use Rattle.eco_journal.specs.declared.opening.Beginning.TheVariants.{Fresh, Headed}
 use Rattle.eco_journal.specs.declared.faults.JournalFault.{JournalFault}
 use Rattle.eco_journal.specs.declared.faults.JournalFault.TheVariants.{Disk, BaseDiffers, BadRecord, Memory}
-use Rattle.eco_journal.specs.Layout.{is_fresh, has_header, entries, behind, Stores, IsWhole}
+use Rattle.eco_journal.specs.Layout.{is_fresh, has_header, HasBase, entries, bad_record, behind, Stores, IsWhole}
 
 abbrev pub IsBeginning : List ℕ → Beginning → Type 0
 IsBeginning bytes (Fresh true) = IsTrue (is_fresh bytes) × (1 < length bytes) × (get_or bytes 0 0 ≡ 0)
@@ -21,6 +21,20 @@ DiffersAt bytes digest (BaseDiffers kept given) = IsTrue (has_header bytes) × (
 DiffersAt bytes digest Disk = Unit {0}
 DiffersAt bytes digest (BadRecord place) = Unit {0}
 DiffersAt bytes digest Memory = Unit {0}
+
+-- Each refusal has its cause in the bytes: a header of another base, or else no header, or an entry that isn't whole.
+abbrev pub Refuses : List ℕ → List ℕ → JournalFault → Type 0
+Refuses digest bytes (BaseDiffers kept given) = IsTrue (has_header bytes) × (kept ≡ take 32 (drop 9 bytes)) × (given ≡ digest) × (kept ≢ given)
+Refuses digest bytes (BadRecord place) = (bad_record bytes ≡ Some place) × HasBase digest bytes
+Refuses digest bytes Disk = Unit {0}
+Refuses digest bytes Memory = Unit {0}
+
+-- a refusal of the bytes, for which the disk isn't changed
+abbrev pub IsRefusal : JournalFault → Type 0
+IsRefusal (BaseDiffers kept given) = Unit {0}
+IsRefusal (BadRecord place) = Unit {0}
+IsRefusal Disk = ⊥
+IsRefusal Memory = ⊥
 
 -- gate 0 stands closed, and no header was opened
 abbrev pub IsUnopened : List ℕ → Type 0
@@ -58,9 +72,9 @@ pub record Finds (digest bytes : List ℕ) (payloads : List (List ℕ)) (content
   pub found : IfOk result (FindsSound digest bytes payloads contents (present now))
   pub no_refusal : IfErr result IsDiskOrMemory
 
--- the entries of the contents as they stood, and the place of the gate behind them
-abbrev pub IsFound : List ℕ → Found → Type 0
-IsFound bytes found = entries bytes ≡ Some found.entries.items
+-- the entries of bytes that have no other base
+abbrev pub AreEntries : List ℕ → List ℕ → List (List ℕ) → Type 0
+AreEntries digest bytes payloads = (entries bytes ≡ Some payloads) × HasBase digest bytes
 
 -- What is kept while a journal is opened. From some moment on, its first sync, each image has the entries, or those
 -- and one; before it the images are those that the disk was handed in with. P tells that the sync was reached.

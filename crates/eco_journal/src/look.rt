@@ -1,12 +1,12 @@
 //! Looking at a journal's disk.
 ghost use Rattle.std.specs.Prelude.{◌≡◌, ◌≢◌, ◌+◌, ◌<◌, ◌≤◌, ◌^◌, [], ◌∷◌, ◌++◌, List, ℕ, Some, None, true, false, length, IfOk, IfErr, OnOk, IsTrue, IsFalse, ⊤};
 ghost use Rattle.eco_disk.specs.Disk.{OnTold, GoesOn, Holds, Rose};
-ghost use Rattle.eco_journal.specs.Layout.{IsWhole, bad_record, entries, is_fresh};
+ghost use Rattle.eco_journal.specs.Layout.{IsWhole, HasBase, bad_record, entries, is_fresh};
 ghost use Rattle.eco_journal.specs.Steps.{BadAt};
 ghost use Rattle.eco_journal.specs.Reading.{Looks, standing_at};
 ghost use Rattle.eco_journal.specs.declared.opening.Beginning.TheVariants.{Fresh};
 ghost use Rattle.eco_journal.specs.declared.standing.Standing.TheVariants.{Settled, AtGate};
-ghost use Rattle.eco_journal.specs.Opening.{IsBeginning, DiffersAt, IsFound, Finds, IsDiskOrMemory};
+ghost use Rattle.eco_journal.specs.Opening.{IsBeginning, DiffersAt, AreEntries, Finds, IsDiskOrMemory, IsRefusal};
 
 use crate::faults::JournalFault;
 use crate::found::Found;
@@ -70,8 +70,8 @@ fn headed<D: Disk>(
         → Finds digest.now bytes payloads (D.contents disk.new) (D.moment disk.old) (D.moment disk.new) (D.image disk.old) (D.image disk.new) result }
     ensures room { IfOk result (λ f. f.gate < len) }
     ensures ends { IfOk result (λ f. IsFalse f.follows → len ≤ f.gate + 1) }
-    ensures found { IfOk result (λ f. OnTold (D.contents disk.old) (λ bytes. IsFalse (is_fresh bytes) → IsFound bytes f)) }
-    ensures bad { IfErr result (λ e. OnTold (D.contents disk.old) (λ bytes. IsFalse (is_fresh bytes) → BadAt (λ place. bad_record bytes ≡ Some place) e)) }
+    ensures found { IfOk result (λ f. OnTold (D.contents disk.old) (λ bytes. IsFalse (is_fresh bytes) → AreEntries digest.now bytes f.entries.items)) }
+    ensures bad { IfErr result (λ e. OnTold (D.contents disk.old) (λ bytes. IsFalse (is_fresh bytes) → BadAt (λ place. (bad_record bytes ≡ Some place) × HasBase digest.now bytes) e)) }
     ensures differs { IfErr result (λ e. OnTold (D.contents disk.old) (λ bytes. DiffersAt bytes digest.now e)) }
     ensures reads { Looks D.contents D.moment D.image disk.old disk.new }
     ensures count { D.faults disk.old ≤ D.faults disk.new }
@@ -95,9 +95,10 @@ pub fn look<D: Disk>(alloc: Global, disk: &mut D, digest: &[u8; 32]) -> Result<F
     ensures room { IfOk result (λ f. f.gate + 1 < 2 ^ 64) }
     ensures lies { IfOk result (λ f. OnTold (D.contents disk.new) (λ bytes. f.gate + 1 ≤ length bytes)) }
     ensures ends { IfOk result (λ f. f.standing ≡ AtGate → IsFalse f.follows → OnTold (D.contents disk.new) (λ bytes. length bytes ≤ f.gate + 1)) }
-    ensures found { IfOk result (λ f. OnTold (D.contents disk.old) (λ bytes. IsFound bytes f)) }
-    ensures bad { IfErr result (λ e. OnTold (D.contents disk.old) (λ bytes. BadAt (λ place. bad_record bytes ≡ Some place) e)) }
+    ensures found { IfOk result (λ f. OnTold (D.contents disk.old) (λ bytes. AreEntries digest.now bytes f.entries.items)) }
+    ensures bad { IfErr result (λ e. OnTold (D.contents disk.old) (λ bytes. BadAt (λ place. (bad_record bytes ≡ Some place) × HasBase digest.now bytes) e)) }
     ensures differs { IfErr result (λ e. OnTold (D.contents disk.old) (λ bytes. DiffersAt bytes digest.now e)) }
+    ensures untouched { IfErr result (λ e. IsRefusal e → D.contents disk.new ≡ D.contents disk.old) }
     ensures told { GoesOn (D.contents disk.old) (D.contents disk.new) (λ _ _. ⊤) }
     ensures count { D.faults disk.old ≤ D.faults disk.new }
     ensures cause { IfErr result (λ e. e ≡ JournalFault.Disk → Rose (D.faults disk.old) (D.faults disk.new)) }

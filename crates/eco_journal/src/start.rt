@@ -1,12 +1,12 @@
 //! Starting a journal, and ending it.
 ghost use Rattle.std.specs.Prelude.{◌≡◌, ◌≢◌, ◌+◌, ◌<◌, ◌≤◌, ◌^◌, [], ◌∷◌, ◌++◌, List, ℕ, Some, None, true, false, length, IfOk, IfErr, OnOk, MatchResult, IsFalse, IsErrOf, ⊤};
 ghost use Rattle.eco_disk.specs.Disk.{OnTold, GoesOn, Holds, LeavesOnly, Rose};
-ghost use Rattle.eco_journal.specs.Layout.{IsWhole, bad_record, entries, StoresOr};
+ghost use Rattle.eco_journal.specs.Layout.{IsWhole, HasBase, bad_record, entries};
 ghost use Rattle.eco_journal.specs.Steps.{BadAt};
 ghost use Rattle.eco_journal.specs.Sound.{Sound, IsSound, Keeps, Settles};
 ghost use Rattle.eco_journal.specs.declared.standing.Standing.TheVariants.{Settled, AtGate};
 ghost use Rattle.eco_journal.specs.Start.{Starts};
-ghost use Rattle.eco_journal.specs.Opening.{DiffersAt, IsFound, IsDiskOrMemory, Begins, FindsSound};
+ghost use Rattle.eco_journal.specs.Opening.{DiffersAt, AreEntries, Refuses, IsRefusal, IsDiskOrMemory, Begins, FindsSound};
 
 use crate::entry::Entry;
 use crate::faults::JournalFault;
@@ -25,9 +25,10 @@ fn open<D: Disk>(alloc: Global, disk: &mut D, digest: &[u8; 32]) -> Result<Found
     ensures room { IfOk result (λ f. f.gate + 1 < 2 ^ 64) }
     ensures lies { IfOk result (λ f. OnTold (D.contents disk.new) (λ bytes. f.gate + 1 ≤ length bytes)) }
     ensures ends { IfOk result (λ f. f.standing ≡ AtGate → IsFalse f.follows → OnTold (D.contents disk.new) (λ bytes. length bytes ≤ f.gate + 1)) }
-    ensures found { IfOk result (λ f. OnTold (D.contents disk.old) (λ bytes. IsFound bytes f)) }
-    ensures bad { IfErr result (λ e. OnTold (D.contents disk.old) (λ bytes. BadAt (λ place. bad_record bytes ≡ Some place) e)) }
+    ensures found { IfOk result (λ f. OnTold (D.contents disk.old) (λ bytes. AreEntries digest.now bytes f.entries.items)) }
+    ensures bad { IfErr result (λ e. OnTold (D.contents disk.old) (λ bytes. BadAt (λ place. (bad_record bytes ≡ Some place) × HasBase digest.now bytes) e)) }
     ensures differs { IfErr result (λ e. OnTold (D.contents disk.old) (λ bytes. DiffersAt bytes digest.now e)) }
+    ensures untouched { IfErr result (λ e. IsRefusal e → D.contents disk.new ≡ D.contents disk.old) }
     ensures told { GoesOn (D.contents disk.old) (D.contents disk.new) (λ _ _. ⊤) }
     ensures count { D.faults disk.old ≤ D.faults disk.new }
     ensures cause { IfErr result (λ e. e ≡ JournalFault.Disk → Rose (D.faults disk.old) (D.faults disk.new)) }
@@ -60,6 +61,8 @@ fn tidied<D: Disk>(disk: D, found: Found) -> Result<(Journal<D>, Vec<Entry>), (D
 }
 
 impl<D: Disk> Journal<D> {
+    ghost use Rattle.eco_journal.specs.Journal.{disk_of, is_broken};
+
     /// Opens a journal, or makes one on a disk without a header. A refusal hands the disk back.
     pub fn start(
         alloc: Global,
@@ -67,12 +70,13 @@ impl<D: Disk> Journal<D> {
         digest: [u8; 32],
     ) -> Result<(Journal<D>, Vec<Entry>), (D, JournalFault)>
         ensures crash { (bytes : List ℕ) (payloads : List (List ℕ)) → D.contents disk ≡ Some bytes → entries bytes ≡ Some payloads → Holds D.contents D.moment D.image disk (IsWhole digest) → Starts digest bytes payloads disk result }
-        ensures whole { IfOk result (λ r. r.0.standing ≡ Settled) }
-        ensures entries { IfOk result (λ r. OnTold (D.contents disk) (λ bytes. entries bytes ≡ Some r.1.items)) }
-        ensures bad { IfErr result (λ e. OnTold (D.contents disk) (λ bytes. BadAt (λ place. bad_record bytes ≡ Some place) e.1)) }
-        ensures differs { IfErr result (λ e. OnTold (D.contents disk) (λ bytes. DiffersAt bytes digest e.1)) }
-        ensures told { MatchResult result (λ r. GoesOn (D.contents disk) (D.contents r.0.disk) (λ _ _. ⊤)) (λ e. GoesOn (D.contents disk) (D.contents e.0) (λ _ _. ⊤)) }
-        ensures count { MatchResult result (λ r. D.faults disk ≤ D.faults r.0.disk) (λ e. D.faults disk ≤ D.faults e.0) }
+        ensures honest { Holds D.contents D.moment D.image disk (IsWhole digest) → IfErr result (λ e. IsDiskOrMemory e.1) }
+        ensures whole { IfOk result (λ r. IsFalse (is_broken r.0)) }
+        ensures entries { IfOk result (λ r. OnTold (D.contents disk) (λ bytes. AreEntries digest bytes r.1.items)) }
+        ensures refuses { IfErr result (λ e. OnTold (D.contents disk) (λ bytes. Refuses digest bytes e.1)) }
+        ensures untouched { IfErr result (λ e. IsRefusal e.1 → D.contents e.0 ≡ D.contents disk) }
+        ensures told { MatchResult result (λ r. GoesOn (D.contents disk) (D.contents (disk_of r.0)) (λ _ _. ⊤)) (λ e. GoesOn (D.contents disk) (D.contents e.0) (λ _ _. ⊤)) }
+        ensures count { MatchResult result (λ r. D.faults disk ≤ D.faults (disk_of r.0)) (λ e. D.faults disk ≤ D.faults e.0) }
         ensures cause { IfErr result (λ e. e.1 ≡ JournalFault.Disk → Rose (D.faults disk) (D.faults e.0)) }
     {
         match open(alloc, &mut disk, &digest) {

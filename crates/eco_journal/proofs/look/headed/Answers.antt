@@ -2,10 +2,10 @@ use Rattle.std.proofs.Common.{◌≡◌, ◌+◌, length, Some, sym, ◌∙◌, 
 use Rattle.std.proofs.lemmas.Result.{err_from_is_err_and}
 use Rattle.std.proofs.lemmas.Bool.{ltb-false}
 use Rattle.eco_disk.proofs.Told.{told_at, told_from}
-use Rattle.eco_journal.specs.Layout.{is_fresh, has_header, entries, bad_place}
+use Rattle.eco_journal.specs.Layout.{is_fresh, has_header, bad_place}
 use Rattle.eco_journal.specs.Reading.{IsReadAll, listed_in}
 use Rattle.eco_journal.specs.Steps.{BadAt}
-use Rattle.eco_journal.specs.Opening.{DiffersAt, IsUnfinishedIn}
+use Rattle.eco_journal.specs.Opening.{AreEntries, DiffersAt, IsUnfinishedIn}
 use Rattle.eco_journal.specs.Sound.{IsSound}
 use Rattle.eco_journal.proofs.Listing.{listing_of, listing_entries, read_are, read_during, read_has, told_bytes, no_head_fault, no_list_fault, read_entries_are, found_sound, some_is}
 use Rattle.eco_journal.proofs.ReadSteps.{reads_on}
@@ -64,7 +64,7 @@ returns-clause-crash g c bytes payloads whole old are has =
     }
 
 pub returns-clause-found : goal.returns-clause-found
-returns-clause-found g c = told_from (g.D.Disk.contents c.args.disk.now) (λ bytes. IsFalse (is_fresh bytes) → entries bytes ≡ Some c.in_ok-found.found.entries.items) (λ bytes told old.
+returns-clause-found g c = told_from (g.D.Disk.contents c.args.disk.now) (λ bytes. IsFalse (is_fresh bytes) → AreEntries c.args.digest.now bytes c.in_ok-found.found.entries.items) (λ bytes told old.
     let head = told_at (g.D.Disk.contents c.args.disk.now) (λ bytes. IsTrue (has_header bytes) × (take 32 (drop 9 bytes) ≡ c.args.digest.now)) bytes told c.in_ok-check_head.ensures.head in
     let read = told_at (g.D.Disk.contents c.check_head.new.disk) (λ bytes. IsReadAll bytes c.in_ok-found.found.entries.items c.in_ok-found.found.at c.in_ok-found.found.gate) bytes (c.check_head.ensures.reads.contents ∙ told) c.in_ok-found.ensures.all in
-    read_entries_are bytes c.in_ok-found.found.entries.items c.in_ok-found.found.at c.in_ok-found.found.gate old head.0 read)
+    (read_entries_are bytes c.in_ok-found.found.entries.items c.in_ok-found.found.at c.in_ok-found.found.gate old head.0 read, λ has. head.1))

@@ -1,4 +1,6 @@
 use Rattle.eco_disk.specs.Disk.{Rose}
+use Rattle.eco_journal.proofs.Forms.{whole_entries}
+use Rattle.eco_journal.proofs.Starts.{whole_now}
 use Rattle.eco_journal.proofs.Started.{started}
 use Rattle.eco_journal.proofs.journal.Journal.start.Goals as goal
 
@@ -13,3 +15,9 @@ pub returns-in-Err-clause-crash : goal.returns-in-Err-clause-crash
 returns-in-Err-clause-crash g c bytes payloads told are has =
     let opened = c.in-Err.ensures.crash bytes payloads told are has in
     (opened.0, opened.2)
+
+pub returns-in-Err-clause-honest : goal.returns-in-Err-clause-honest
+returns-in-Err-clause-honest g c has =
+    let whole = whole_now c.args.digest has.bytes has.told has in
+    let found = whole_entries c.args.digest has.bytes whole in
+    (c.in-Err.ensures.crash has.bytes found.0 has.told found.1 has).2
