@@ -22,3 +22,6 @@ pub use entry::Entry;
 pub use faults::{AppendFault, JournalFault};
 pub use journal::Journal;
 pub use standing::Standing;
+
+#[cfg(test)]
+mod tests;
