@@ -17,7 +17,7 @@ listed_skip (suc n) place [] ys is = absurd (omega arith)
 listed_skip (suc n) place (x ∷ xs) ys is =
     listed_skip n (place + 1) xs ys (omega arith) ∙ ap (λ p. listed 0 p ys) (omega arith)
 
-fits_whole : (payload ys : List ℕ) → IsPayload payload → 1 ≤ length ys → fits (length payload) (to_be_bytes w32 (length payload) ++ (payload ++ ys)) ≡ true
+pub fits_whole : (payload ys : List ℕ) → IsPayload payload → 1 ≤ length ys → fits (length payload) (to_be_bytes w32 (length payload) ++ (payload ++ ys)) ≡ true
 fits_whole payload ys is more =
     and_from _ _ (and_from _ _ (le-leb _ _ is.0) (le-leb _ _ is.1)) (le-leb _ _ (omega (arith, more, length-append payload ys)))
 

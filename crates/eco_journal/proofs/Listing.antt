@@ -73,7 +73,7 @@ pub payloads_then : (payloads : List (List ℕ)) (tail : List ℕ) → payloads_
 payloads_then [] tail = refl
 payloads_then (p ∷ payloads) tail = ap (option_map (λ ps. p ∷ ps)) (payloads_then payloads tail)
 
-none_bad : (payloads : List (List ℕ)) (tail : List ℕ) → bad_place (entries_then payloads (stops tail)) ≡ None
+pub none_bad : (payloads : List (List ℕ)) (tail : List ℕ) → bad_place (entries_then payloads (stops tail)) ≡ None
 none_bad [] tail = refl
 none_bad (p ∷ payloads) tail = none_bad payloads tail
 

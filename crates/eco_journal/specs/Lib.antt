@@ -5,4 +5,5 @@ pub mod Reading
 pub mod Steps
 pub mod Opening
 pub mod Start
+pub mod Meaning
 pub mod Stands

@@ -11,6 +11,7 @@ mod faults;
 mod found;
 mod journal;
 mod kept;
+mod laws;
 mod look;
 mod mend;
 mod opening;
@@ -21,6 +22,7 @@ mod start;
 pub use entry::Entry;
 pub use faults::{AppendFault, JournalFault};
 pub use journal::Journal;
+pub use laws::{bytes_follow_the_layout, runs_follow_one_another};
 pub use standing::Standing;
 
 #[cfg(test)]
