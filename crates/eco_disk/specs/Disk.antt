@@ -11,6 +11,10 @@ abbrev pub GoesOn : Option (List ℕ) → Option (List ℕ) → (List ℕ → Li
 GoesOn None now R = now ≡ None
 GoesOn (Some before) now R = (bytes : List ℕ) × (now ≡ Some bytes) × R before bytes
 
+-- told contents stay told, whatever they are
+abbrev pub StaysTold : Option (List ℕ) → Option (List ℕ) → Type 0
+StaysTold before now = GoesOn before now (λ old new. Unit {0})
+
 -- these bytes with the piece at this place
 abbrev pub written : ℕ → List ℕ → List ℕ → List ℕ
 written at piece bytes = take at bytes ++ piece ++ drop (at + length piece) bytes

@@ -1,5 +1,5 @@
 //! Edits of bytes in place, where they have to grow only after the memory is there.
-ghost use Rattle.std.specs.Prelude.{◌≡◌, ◌≤◌, ◌++◌, length, take, drop, OnOk, OnErr};
+ghost use Rattle.std.specs.Prelude.{◌≡◌, ◌≤◌, length, take, OnOk, OnErr};
 ghost use Rattle.eco_disk.specs.Disk.{written};
 
 use std::alloc::AllocError;

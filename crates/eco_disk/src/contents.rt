@@ -42,7 +42,8 @@ impl Contents {
     pub fn write(&mut self, at: usize, piece: &[u8]) -> Result<(), AllocError>
         requires { at ≤ length self.old.bytes.items }
         ensures past { SamePast self.old self.new }
-        ensures ok { OnOk result (self.new.bytes.items ≡ written at piece.now self.old.bytes.items) }
+        ensures ok { OnOk result
+            (self.new.bytes.items ≡ written at piece.now self.old.bytes.items) }
         ensures err { OnErr result (self.new.bytes.items ≡ self.old.bytes.items) }
     {
         part(&mut self.past, &self.bytes, at)?;

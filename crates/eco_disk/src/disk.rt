@@ -44,7 +44,9 @@ pub trait Disk {
     /// Reads as many bytes as the piece has.
     fn read(&mut self, at: u64, piece: &mut [u8]) -> Result<(), Failed>
         requires { OnTold (contents self.old) (λ bytes. at + length piece.old ≤ length bytes) }
-        ensures read { OnOk result (OnTold (contents self.old) (λ bytes. piece.new ≡ slice_range bytes at (at + length piece.old))) }
+        ensures read { OnOk result
+            (OnTold (contents self.old)
+            (λ bytes. piece.new ≡ slice_range bytes at (at + length piece.old))) }
         ensures contents { contents self.new ≡ contents self.old }
         ensures crash { Follows moment image self.old self.new Same }
         ensures cause { HasCause (faults self.old) (faults self.new) result };
@@ -53,15 +55,19 @@ pub trait Disk {
     /// not at all.
     fn write_at(&mut self, at: u64, piece: &[u8]) -> Result<(), Failed>
         requires { OnTold (contents self.old) (λ bytes. at ≤ length bytes) }
-        ensures written { OnOk result (GoesOn (contents self.old) (contents self.new) (λ old new. new ≡ written at piece.now old)) }
-        ensures contents { GoesOn (contents self.old) (contents self.new) (Torn at (length piece.now)) }
+        ensures written { OnOk result
+            (GoesOn (contents self.old) (contents self.new)
+            (λ old new. new ≡ written at piece.now old)) }
+        ensures contents { GoesOn (contents self.old) (contents self.new)
+            (Torn at (length piece.now)) }
         ensures crash { Follows moment image self.old self.new (Torn at (length piece.now)) }
         ensures cause { HasCause (faults self.old) (faults self.new) result };
 
     /// Cuts what stands behind a length. A cut that fails may have been made whole, in part or not at all.
     fn cut(&mut self, len: u64) -> Result<(), Failed>
         requires { OnTold (contents self.old) (λ bytes. len ≤ length bytes) }
-        ensures cut { OnOk result (GoesOn (contents self.old) (contents self.new) (λ old new. new ≡ take len old)) }
+        ensures cut { OnOk result
+            (GoesOn (contents self.old) (contents self.new) (λ old new. new ≡ take len old)) }
         ensures contents { GoesOn (contents self.old) (contents self.new) (Cut len) }
         ensures crash { Follows moment image self.old self.new (Cut len) }
         ensures cause { HasCause (faults self.old) (faults self.new) result };

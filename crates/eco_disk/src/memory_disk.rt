@@ -1,5 +1,5 @@
 //! A disk in memory.
-ghost use Rattle.std.specs.Prelude.{◌≡◌, ◌≤◌, ◌+◌, [], length, slice_range, take, Some, IfOk, OnOk};
+ghost use Rattle.std.specs.Prelude.{◌≡◌, ◌≤◌, ◌+◌, [], length, slice_range, take, IfOk, OnOk};
 ghost use Rattle.eco_disk.specs.Disk.{OnTold, GoesOn, written, Torn, Cut, Same, Follows, IsKept, HasCause};
 ghost use Rattle.eco_disk.specs.declared.call.Call.TheVariants.{Len, Read, Write, Sync};
 ghost use Rattle.eco_disk.specs.declared.call.Call.TheVariants as call;
@@ -114,7 +114,9 @@ impl Disk for MemoryDisk {
     fn read(&mut self, at: u64, piece: &mut [u8]) -> Result<(), Failed>
         requires { OnTold (contents self.old) (λ bytes. at + length piece.old ≤ length bytes) }
         ensures answers { Answers (Read at (length piece.old)) self.old self.new result }
-        ensures read { OnOk result (OnTold (contents self.old) (λ bytes. piece.new ≡ slice_range bytes at (at + length piece.old))) }
+        ensures read { OnOk result
+            (OnTold (contents self.old)
+            (λ bytes. piece.new ≡ slice_range bytes at (at + length piece.old))) }
         ensures contents { contents self.new ≡ contents self.old }
         ensures crash { Follows moment image self.old self.new Same }
         ensures cause { HasCause (faults_of self.old) (faults_of self.new) result }
@@ -131,8 +133,11 @@ impl Disk for MemoryDisk {
     fn write_at(&mut self, at: u64, piece: &[u8]) -> Result<(), Failed>
         requires { OnTold (contents self.old) (λ bytes. at ≤ length bytes) }
         ensures answers { Answers (Write at piece.now) self.old self.new result }
-        ensures written { OnOk result (GoesOn (contents self.old) (contents self.new) (λ old new. new ≡ written at piece.now old)) }
-        ensures contents { GoesOn (contents self.old) (contents self.new) (Torn at (length piece.now)) }
+        ensures written { OnOk result
+            (GoesOn (contents self.old) (contents self.new)
+            (λ old new. new ≡ written at piece.now old)) }
+        ensures contents { GoesOn (contents self.old) (contents self.new)
+            (Torn at (length piece.now)) }
         ensures crash { Follows moment image self.old self.new (Torn at (length piece.now)) }
         ensures cause { HasCause (faults_of self.old) (faults_of self.new) result }
     {
@@ -144,7 +149,8 @@ impl Disk for MemoryDisk {
     fn cut(&mut self, len: u64) -> Result<(), Failed>
         requires { OnTold (contents self.old) (λ bytes. len ≤ length bytes) }
         ensures answers { Answers (call.Cut len) self.old self.new result }
-        ensures cut { OnOk result (GoesOn (contents self.old) (contents self.new) (λ old new. new ≡ take len old)) }
+        ensures cut { OnOk result
+            (GoesOn (contents self.old) (contents self.new) (λ old new. new ≡ take len old)) }
         ensures contents { GoesOn (contents self.old) (contents self.new) (Cut len) }
         ensures crash { Follows moment image self.old self.new (Cut len) }
         ensures cause { HasCause (faults_of self.old) (faults_of self.new) result }

@@ -1,5 +1,5 @@
 //! What a disk in memory was at first, and what its last sync kept.
-ghost use Rattle.std.specs.Prelude.{◌≡◌, ◌≤◌, length, take, Option, Some, None, IfOk, OnOk, OnErr};
+ghost use Rattle.std.specs.Prelude.{◌≡◌, ◌≤◌, length, Some, None, IfOk, OnOk, OnErr};
 ghost use Rattle.eco_disk.specs.Past.{first_in, kept_in, Agrees, IsParted};
 
 use crate::buffer::follow;

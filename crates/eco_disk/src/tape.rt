@@ -1,5 +1,5 @@
 //! A disk in memory without its counts: what it holds, and its calls.
-ghost use Rattle.std.specs.Prelude.{◌≡◌, ◌≤◌, ◌<◌, length, IsTrue, OnOk, vec_len, vec_capacity};
+ghost use Rattle.std.specs.Prelude.{◌≡◌, ◌≤◌, ◌<◌, length, OnOk, vec_len, vec_capacity};
 ghost use Rattle.eco_disk.specs.declared.call.Call.TheVariants.{Write, Sync};
 ghost use Rattle.eco_disk.specs.declared.call.Call.TheVariants as call;
 ghost use Rattle.eco_disk.specs.Disk.{Torn, Cut, Same, Follows, Only};
@@ -54,7 +54,8 @@ fn play_write(
     piece: &[u8],
 ) -> Result<(), Cause>
     requires { at ≤ length contents.old.bytes.items }
-    ensures { Plays listed (Write at piece.now) contents.old contents.new calls.old.items calls.new.items result }
+    ensures { Plays listed
+        (Write at piece.now) contents.old contents.new calls.old.items calls.new.items result }
 {
     begin(calls, listed)?;
     let kept = Piece::of(*contents.bytes.allocator(), piece)?;
@@ -70,7 +71,8 @@ fn play_cut(
     len: u64,
 ) -> Result<(), Cause>
     requires { len ≤ length contents.old.bytes.items }
-    ensures { Plays listed (call.Cut len) contents.old contents.new calls.old.items calls.new.items result }
+    ensures { Plays listed
+        (call.Cut len) contents.old contents.new calls.old.items calls.new.items result }
 {
     begin(calls, listed)?;
     contents.cut(len as usize)?;
@@ -102,8 +104,10 @@ impl Tape {
 
     pub fn write(&mut self, listed: bool, at: u64, piece: &[u8]) -> Result<(), Cause>
         requires { at ≤ length self.old.contents.bytes.items }
-        ensures plays { Plays listed (Write at piece.now) self.old.contents self.new.contents self.old.calls.items self.new.calls.items result }
-        ensures torn { Torn at (length piece.now) self.old.contents.bytes.items self.new.contents.bytes.items }
+        ensures plays { Plays listed
+            (Write at piece.now) self.old.contents self.new.contents self.old.calls.items self.new.calls.items result }
+        ensures torn { Torn at
+            (length piece.now) self.old.contents.bytes.items self.new.contents.bytes.items }
         ensures crash { Follows moment_of image_of self.old self.new (Torn at (length piece.now)) }
     {
         play_write(&mut self.contents, &mut self.calls, listed, at, piece)
@@ -111,7 +115,8 @@ impl Tape {
 
     pub fn cut(&mut self, listed: bool, len: u64) -> Result<(), Cause>
         requires { len ≤ length self.old.contents.bytes.items }
-        ensures plays { Plays listed (call.Cut len) self.old.contents self.new.contents self.old.calls.items self.new.calls.items result }
+        ensures plays { Plays listed
+            (call.Cut len) self.old.contents self.new.contents self.old.calls.items self.new.calls.items result }
         ensures cut { Cut len self.old.contents.bytes.items self.new.contents.bytes.items }
         ensures crash { Follows moment_of image_of self.old self.new (Cut len) }
     {
@@ -121,7 +126,8 @@ impl Tape {
     pub fn sync(&mut self, listed: bool) -> Result<(), Cause>
         ensures plays { Plays listed Sync self.old.contents self.new.contents self.old.calls.items self.new.calls.items result }
         ensures same { self.new.contents.bytes.items ≡ self.old.contents.bytes.items }
-        ensures kept { OnOk result (Only self.new.contents.bytes.items (image_of self.new (moment_of self.new))) }
+        ensures kept { OnOk result
+            (Only self.new.contents.bytes.items (image_of self.new (moment_of self.new))) }
         ensures crash { Follows moment_of image_of self.old self.new Same }
     {
         play_sync(&mut self.contents, &mut self.calls, listed)

@@ -1,6 +1,6 @@
 //! Adding an entry.
-ghost use Rattle.std.specs.Prelude.{◌≡◌, ⊤, ◌+◌, ◌<◌, ◌≤◌, ◌^◌, List, ℕ, length, IfOk, IfErr, IsTrue, IsFalse, IsErrOf, MatchResult};
-ghost use Rattle.eco_disk.specs.Disk.{GoesOn, Rose};
+ghost use Rattle.std.specs.Prelude.{◌≡◌, ◌+◌, ◌<◌, ◌≤◌, ◌^◌, List, ℕ, length, IfOk, IfErr, IsTrue, IsFalse, IsErrOf, MatchResult};
+ghost use Rattle.eco_disk.specs.Disk.{StaysTold, Rose};
 ghost use Rattle.eco_journal.specs.Layout.{behind, IsPayload};
 ghost use Rattle.eco_journal.specs.Journal.{disk_of, is_broken};
 ghost use Rattle.eco_journal.specs.Sound.{Sound, Appends};
@@ -40,16 +40,27 @@ fn made(alloc: Global, gate: u64, payload: &[u8]) -> Result<(Vec<u8>, u64), Appe
 }
 
 impl<D: Disk> Journal<D> {
-    /// Adds an entry. From Ok on it is there after each crash. A fault of the disk stands until a mend.
+    /// Adds an entry of 1 to 16,777,216 bytes. From Ok on it is there after each crash.
+    ///
+    /// A fault of the disk stands until a mend: until then the entry may be there or not. Without memory nothing was
+    /// done; that is also the answer where the journal has no place left below 2^64.
     pub fn append(&mut self, alloc: Global, payload: &[u8]) -> Result<(), AppendFault>
         requires size { IsPayload payload.now }
         requires whole { IsFalse (is_broken self.old) }
-        ensures crash { (digest : List ℕ) (payloads : List (List ℕ)) (last : List ℕ) → Sound digest payloads last self.old → Appends digest payloads payload.now self.old self.new result }
+
+        // On an honest disk, by a journal that is sound.
+        ensures crash { (digest : List ℕ) (payloads : List (List ℕ)) (last : List ℕ)
+            → Sound digest payloads last self.old
+            → Appends digest payloads payload.now self.old self.new result }
+
+        // On any disk.
         ensures memory { IsErrOf result AppendFault.Memory → self.new ≡ self.old }
-        ensures broken { MatchResult result (λ _. IsFalse (is_broken self.new)) (λ e. e ≡ AppendFault.Disk → IsTrue (is_broken self.new)) }
-        ensures told { GoesOn (D.contents (disk_of self.old)) (D.contents (disk_of self.new)) (λ _ _. ⊤) }
+        ensures broken { MatchResult result (λ _. IsFalse (is_broken self.new))
+            (λ e. e ≡ AppendFault.Disk → IsTrue (is_broken self.new)) }
+        ensures told { StaysTold (D.contents (disk_of self.old)) (D.contents (disk_of self.new)) }
         ensures count { D.faults (disk_of self.old) ≤ D.faults (disk_of self.new) }
-        ensures cause { IsErrOf result AppendFault.Disk → Rose (D.faults (disk_of self.old)) (D.faults (disk_of self.new)) }
+        ensures cause { IsErrOf result AppendFault.Disk
+            → Rose (D.faults (disk_of self.old)) (D.faults (disk_of self.new)) }
     {
         let (unfinished, end) = made(alloc, self.gate, payload)?;
         self.standing = Standing::Behind;

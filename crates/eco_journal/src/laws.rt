@@ -13,10 +13,14 @@ pub fn bytes_follow_the_layout()
 
 /// What stands over a run of calls and over the run behind it stands over both.
 pub fn runs_follow_one_another<D: Disk>(disk: &D)
-    ensures { (digest : List ℕ) (from between to : ℕ) (entries more others begun : List (List ℕ)) → from ≤ between → between ≤ to
-        → Stands (λ bytes book. Stores digest book bytes) (D.image disk.now) from between entries more begun
-        → Stands (λ bytes book. Stores digest book bytes) (D.image disk.now) between to (entries ++ more) others begun
-        → Stands (λ bytes book. Stores digest book bytes) (D.image disk.now) from to entries (more ++ others) begun }
+    ensures { (digest : List ℕ) (from between to : ℕ) (entries more others begun : List (List ℕ))
+        → from ≤ between → between ≤ to
+        → Stands (λ bytes book. Stores digest book bytes)
+        (D.image disk.now) from between entries more begun
+        → Stands (λ bytes book. Stores digest book bytes) (D.image disk.now) between to
+        (entries ++ more) others begun
+        → Stands (λ bytes book. Stores digest book bytes) (D.image disk.now) from to entries
+        (more ++ others) begun }
 {
     let _ = disk;
 }

@@ -23,7 +23,6 @@ pub use entry::Entry;
 pub use faults::{AppendFault, JournalFault};
 pub use journal::Journal;
 pub use laws::{bytes_follow_the_layout, runs_follow_one_another};
-pub use standing::Standing;
 
 #[cfg(test)]
 mod tests;

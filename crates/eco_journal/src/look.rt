@@ -1,6 +1,6 @@
 //! Looking at a journal's disk.
-ghost use Rattle.std.specs.Prelude.{◌≡◌, ◌≢◌, ◌+◌, ◌<◌, ◌≤◌, ◌^◌, [], ◌∷◌, ◌++◌, List, ℕ, Some, None, true, false, length, IfOk, IfErr, OnOk, IsTrue, IsFalse, ⊤};
-ghost use Rattle.eco_disk.specs.Disk.{OnTold, GoesOn, Holds, Rose};
+ghost use Rattle.std.specs.Prelude.{◌≡◌, ◌+◌, ◌<◌, ◌≤◌, ◌^◌, [], List, ℕ, Some, length, IfOk, IfErr, IsTrue, IsFalse};
+ghost use Rattle.eco_disk.specs.Disk.{StaysTold, OnTold, Holds, Rose};
 ghost use Rattle.eco_journal.specs.Layout.{IsWhole, HasBase, bad_record, entries, is_fresh};
 ghost use Rattle.eco_journal.specs.Steps.{BadAt};
 ghost use Rattle.eco_journal.specs.Reading.{Looks, standing_at};
@@ -24,16 +24,20 @@ fn make<D: Disk>(
     shut: bool,
 ) -> Result<Found, JournalFault>
     requires { IsTrue shut → OnTold (D.contents disk.old) (λ bytes. 1 ≤ length bytes) }
-    ensures crash { (bytes : List ℕ) → IsWhole digest.now bytes → IsBeginning bytes (Fresh shut) → Holds D.contents D.moment D.image disk.old (λ c. c ≡ bytes)
-        → Finds digest.now bytes [] (D.contents disk.new) (D.moment disk.old) (D.moment disk.new) (D.image disk.old) (D.image disk.new) result }
+    ensures crash { (bytes : List ℕ) → IsWhole digest.now bytes → IsBeginning bytes (Fresh shut)
+        → Holds D.contents D.moment D.image disk.old (λ c. c ≡ bytes)
+        → Finds digest.now bytes [] (D.contents disk.new) (D.moment disk.old) (D.moment disk.new)
+        (D.image disk.old) (D.image disk.new) result }
     ensures room { IfOk result (λ f. f.gate + 1 < 2 ^ 64) }
-    ensures lies { IfOk result (λ f. OnTold (D.contents disk.new) (λ bytes. f.gate + 1 ≤ length bytes)) }
+    ensures lies { IfOk result
+        (λ f. OnTold (D.contents disk.new) (λ bytes. f.gate + 1 ≤ length bytes)) }
     ensures settled { IfOk result (λ f. f.standing ≡ Settled) }
     ensures none { IfOk result (λ f. f.entries.items ≡ []) }
-    ensures told { GoesOn (D.contents disk.old) (D.contents disk.new) (λ _ _. ⊤) }
+    ensures told { StaysTold (D.contents disk.old) (D.contents disk.new) }
     ensures no_refusal { IfErr result IsDiskOrMemory }
     ensures count { D.faults disk.old ≤ D.faults disk.new }
-    ensures cause { IfErr result (λ e. e ≡ JournalFault.Disk → Rose (D.faults disk.old) (D.faults disk.new)) }
+    ensures cause { IfErr result
+        (λ e. e ≡ JournalFault.Disk → Rose (D.faults disk.old) (D.faults disk.new)) }
 {
     let header = header(alloc, digest)?;
     clear(disk, shut)?;
@@ -66,16 +70,26 @@ fn headed<D: Disk>(
     digest: &[u8; 32],
 ) -> Result<Found, JournalFault>
     requires { OnTold (D.contents disk.old) (λ bytes. len ≡ length bytes) }
-    ensures crash { (bytes : List ℕ) (payloads : List (List ℕ)) → IsWhole digest.now bytes → IsFalse (is_fresh bytes) → entries bytes ≡ Some payloads → Holds D.contents D.moment D.image disk.old (λ c. c ≡ bytes)
-        → Finds digest.now bytes payloads (D.contents disk.new) (D.moment disk.old) (D.moment disk.new) (D.image disk.old) (D.image disk.new) result }
+    ensures crash { (bytes : List ℕ) (payloads : List (List ℕ)) → IsWhole digest.now bytes
+        → IsFalse (is_fresh bytes) → entries bytes ≡ Some payloads
+        → Holds D.contents D.moment D.image disk.old (λ c. c ≡ bytes)
+        → Finds digest.now bytes payloads (D.contents disk.new) (D.moment disk.old)
+        (D.moment disk.new) (D.image disk.old) (D.image disk.new) result }
     ensures room { IfOk result (λ f. f.gate < len) }
     ensures ends { IfOk result (λ f. IsFalse f.follows → len ≤ f.gate + 1) }
-    ensures found { IfOk result (λ f. OnTold (D.contents disk.old) (λ bytes. IsFalse (is_fresh bytes) → AreEntries digest.now bytes f.entries.items)) }
-    ensures bad { IfErr result (λ e. OnTold (D.contents disk.old) (λ bytes. IsFalse (is_fresh bytes) → BadAt (λ place. (bad_record bytes ≡ Some place) × HasBase digest.now bytes) e)) }
-    ensures differs { IfErr result (λ e. OnTold (D.contents disk.old) (λ bytes. DiffersAt bytes digest.now e)) }
+    ensures found { IfOk result
+        (λ f. OnTold (D.contents disk.old)
+        (λ bytes. IsFalse (is_fresh bytes) → AreEntries digest.now bytes f.entries.items)) }
+    ensures bad { IfErr result
+        (λ e. OnTold (D.contents disk.old)
+        (λ bytes. IsFalse (is_fresh bytes)
+        → BadAt (λ place. (bad_record bytes ≡ Some place) × HasBase digest.now bytes) e)) }
+    ensures differs { IfErr result
+        (λ e. OnTold (D.contents disk.old) (λ bytes. DiffersAt bytes digest.now e)) }
     ensures reads { Looks D.contents D.moment D.image disk.old disk.new }
     ensures count { D.faults disk.old ≤ D.faults disk.new }
-    ensures cause { IfErr result (λ e. e ≡ JournalFault.Disk → Rose (D.faults disk.old) (D.faults disk.new)) }
+    ensures cause { IfErr result
+        (λ e. e ≡ JournalFault.Disk → Rose (D.faults disk.old) (D.faults disk.new)) }
 {
     check_head(disk, len, digest)?;
     let found = read_entries(alloc, disk, len)?;
@@ -90,18 +104,30 @@ fn headed<D: Disk>(
 
 // What stands on a disk that was synced.
 pub fn look<D: Disk>(alloc: Global, disk: &mut D, digest: &[u8; 32]) -> Result<Found, JournalFault>
-    ensures crash { (bytes : List ℕ) (payloads : List (List ℕ)) → IsWhole digest.now bytes → entries bytes ≡ Some payloads → Holds D.contents D.moment D.image disk.old (λ c. c ≡ bytes)
-        → Finds digest.now bytes payloads (D.contents disk.new) (D.moment disk.old) (D.moment disk.new) (D.image disk.old) (D.image disk.new) result }
+    ensures crash { (bytes : List ℕ) (payloads : List (List ℕ)) → IsWhole digest.now bytes
+        → entries bytes ≡ Some payloads
+        → Holds D.contents D.moment D.image disk.old (λ c. c ≡ bytes)
+        → Finds digest.now bytes payloads (D.contents disk.new) (D.moment disk.old)
+        (D.moment disk.new) (D.image disk.old) (D.image disk.new) result }
     ensures room { IfOk result (λ f. f.gate + 1 < 2 ^ 64) }
-    ensures lies { IfOk result (λ f. OnTold (D.contents disk.new) (λ bytes. f.gate + 1 ≤ length bytes)) }
-    ensures ends { IfOk result (λ f. f.standing ≡ AtGate → IsFalse f.follows → OnTold (D.contents disk.new) (λ bytes. length bytes ≤ f.gate + 1)) }
-    ensures found { IfOk result (λ f. OnTold (D.contents disk.old) (λ bytes. AreEntries digest.now bytes f.entries.items)) }
-    ensures bad { IfErr result (λ e. OnTold (D.contents disk.old) (λ bytes. BadAt (λ place. (bad_record bytes ≡ Some place) × HasBase digest.now bytes) e)) }
-    ensures differs { IfErr result (λ e. OnTold (D.contents disk.old) (λ bytes. DiffersAt bytes digest.now e)) }
-    ensures untouched { IfErr result (λ e. IsRefusal e → D.contents disk.new ≡ D.contents disk.old) }
-    ensures told { GoesOn (D.contents disk.old) (D.contents disk.new) (λ _ _. ⊤) }
+    ensures lies { IfOk result
+        (λ f. OnTold (D.contents disk.new) (λ bytes. f.gate + 1 ≤ length bytes)) }
+    ensures ends { IfOk result
+        (λ f. f.standing ≡ AtGate → IsFalse f.follows
+        → OnTold (D.contents disk.new) (λ bytes. length bytes ≤ f.gate + 1)) }
+    ensures found { IfOk result
+        (λ f. OnTold (D.contents disk.old) (λ bytes. AreEntries digest.now bytes f.entries.items)) }
+    ensures bad { IfErr result
+        (λ e. OnTold (D.contents disk.old)
+        (λ bytes. BadAt (λ place. (bad_record bytes ≡ Some place) × HasBase digest.now bytes) e)) }
+    ensures differs { IfErr result
+        (λ e. OnTold (D.contents disk.old) (λ bytes. DiffersAt bytes digest.now e)) }
+    ensures untouched { IfErr result
+        (λ e. IsRefusal e → D.contents disk.new ≡ D.contents disk.old) }
+    ensures told { StaysTold (D.contents disk.old) (D.contents disk.new) }
     ensures count { D.faults disk.old ≤ D.faults disk.new }
-    ensures cause { IfErr result (λ e. e ≡ JournalFault.Disk → Rose (D.faults disk.old) (D.faults disk.new)) }
+    ensures cause { IfErr result
+        (λ e. e ≡ JournalFault.Disk → Rose (D.faults disk.old) (D.faults disk.new)) }
 {
     let len = disk.len()?;
     match how_it_begins(disk, len)? {

@@ -1,7 +1,4 @@
 //! Each call of the disk fails in turn: what is answered, what stands afterwards, and what a crash then leaves.
-ghost use Rattle.std.specs.Prelude.{◌≡◌, IfOk, IfSome, IsTrue, IsFalse};
-ghost use Rattle.eco_journal.specs.Journal.{is_broken};
-ghost use Rattle.eco_journal.specs.Layout.{IsPayload};
 
 use super::*;
 use std::test::Fail;

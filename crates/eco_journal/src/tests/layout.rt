@@ -30,6 +30,14 @@ fn an_entry_has_its_gate_its_length_and_its_payload(rt: HostRuntime) -> Result<(
     Ok(())
 }
 
+#[test]
+fn an_entry_gives_its_bytes_back(rt: HostRuntime) -> Result<(), Fail> {
+    let entry = Entry::of(Vec::from_slice(rt.alloc(), b"ab")?);
+    assert_eq!(rt; entry.bytes(), b"ab".as_slice());
+    assert_eq!(rt; entry.into_vec().as_slice(), b"ab".as_slice());
+    Ok(())
+}
+
 // An empty disk, and its disk opened with another base: its bytes, and what is answered.
 fn reopened(alloc: Global) -> Result<Option<(Vec<u8>, JournalFault)>, AllocError> {
     let disk = MemoryDisk::new(Vec::new(alloc), Vec::new(alloc));

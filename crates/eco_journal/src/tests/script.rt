@@ -1,5 +1,5 @@
 //! A script that goes on after each failed call, and what a crash would have left in between.
-ghost use Rattle.std.specs.Prelude.{◌≡◌, IfOk, IfSome, IsTrue, IsFalse};
+ghost use Rattle.std.specs.Prelude.{IfOk, IfSome, IsTrue, IsFalse};
 ghost use Rattle.eco_journal.specs.Journal.{is_broken};
 ghost use Rattle.eco_journal.specs.Layout.{IsPayload};
 
