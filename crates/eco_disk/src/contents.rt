@@ -1,0 +1,73 @@
+//! What a disk in memory holds: now, at its last sync, and at first.
+ghost use Rattle.std.specs.Prelude.{◌≡◌, ◌≤◌, length, take, OnOk, OnErr};
+ghost use Rattle.eco_disk.specs.Disk.{written};
+ghost use Rattle.std.proofs.Props.{props};
+ghost use Rattle.eco_disk.specs.Past.{Agrees};
+
+use crate::buffer::overwrite;
+use crate::past::{Past, keep, part};
+use std::alloc::AllocError;
+
+#[derive(Drop)]
+pub struct Contents {
+    /// What a read gives.
+    pub bytes: Vec<u8>,
+    /// None before the first change.
+    pub past: Option<Past>,
+
+    ghost agrees: { Agrees bytes.items past } by { Prim.hlevel props },
+}
+
+impl Contents {
+    ghost use Rattle.eco_disk.specs.Contents.{first_of, kept_of, SamePast};
+
+    pub fn of(bytes: Vec<u8>) -> Self
+        ensures bytes { result.bytes ≡ bytes }
+        ensures first { first_of result ≡ bytes.items }
+        ensures kept { kept_of result ≡ bytes.items }
+    {
+        Contents { bytes, past: None }
+    }
+
+    /// What the last sync that succeeded kept.
+    pub fn kept(&self) -> &[u8]
+        ensures { result.now ≡ kept_of self.now }
+    {
+        match &self.past {
+            Some(past) => &past.kept,
+            None => &self.bytes,
+        }
+    }
+
+    pub fn write(&mut self, at: usize, piece: &[u8]) -> Result<(), AllocError>
+        requires { at ≤ length self.old.bytes.items }
+        ensures past { SamePast self.old self.new }
+        ensures ok { OnOk result
+            (self.new.bytes.items ≡ written at piece.now self.old.bytes.items) }
+        ensures err { OnErr result (self.new.bytes.items ≡ self.old.bytes.items) }
+    {
+        part(&mut self.past, &self.bytes, at)?;
+        overwrite(&mut self.bytes, at, piece)
+    }
+
+    pub fn cut(&mut self, len: usize) -> Result<(), AllocError>
+        requires { len ≤ length self.old.bytes.items }
+        ensures past { SamePast self.old self.new }
+        ensures ok { OnOk result (self.new.bytes.items ≡ take len self.old.bytes.items) }
+        ensures err { OnErr result (self.new.bytes.items ≡ self.old.bytes.items) }
+    {
+        part(&mut self.past, &self.bytes, len)?;
+        self.bytes.truncate(len);
+        Ok(())
+    }
+
+    /// Keeps what a read gives.
+    pub fn sync(&mut self) -> Result<(), AllocError>
+        ensures bytes { self.new.bytes.items ≡ self.old.bytes.items }
+        ensures first { first_of self.new ≡ first_of self.old }
+        ensures ok { OnOk result (kept_of self.new ≡ self.old.bytes.items) }
+        ensures err { OnErr result (kept_of self.new ≡ kept_of self.old) }
+    {
+        keep(&mut self.past, &self.bytes)
+    }
+}

@@ -1,0 +1,7 @@
+use Rattle.eco_journal.specs.Layout.{Stores}
+use Rattle.eco_journal.proofs.StandsLaw.{stands_then}
+use Rattle.eco_journal.proofs.laws.runs_follow_one_another.Goals as goal
+
+pub returns : goal.returns
+returns g c digest from between to entries more others begun first second =
+    stands_then (λ bytes book. Stores digest book bytes) (g.D.Disk.image c.args.disk.now) begun from between to entries more others first second

@@ -1,0 +1,31 @@
+use Rattle.std.proofs.Common.{[], ◌++◌, refl, sym, ◌∙◌, subst}
+use Rattle.std.proofs.lemmas.Result.{err_from_is_err_and}
+use Rattle.eco_disk.proofs.Moments.{during_then, during_none}
+use Rattle.eco_journal.specs.Layout.{magic, IsHead, Stores}
+use Rattle.eco_journal.proofs.Fresh.{begins_fresh, fresh_stores, made_sound}
+use Rattle.eco_journal.proofs.look.make.Goals as goal
+
+pub returns-in_err-header-clause-crash : goal.returns-in_err-header-clause-crash
+returns-in_err-header-clause-crash g c bytes whole begins has =
+    let p = err_from_is_err_and c.from_residual.result c.from_residual.ensures.1 in
+    let stores = fresh_stores c.args.digest.now bytes whole (begins_fresh bytes c.args.shut begins) in
+    rw (p.1, p.2) (record { any_moment = during_none (λ x now. subst (Stores c.args.digest.now []) (sym (has.each x now)) stores); found = tt; no_refusal = tt })
+
+pub returns-in_err-lay-clause-crash : goal.returns-in_err-lay-clause-crash
+returns-in_err-lay-clause-crash g c bytes whole begins has =
+    let p = err_from_is_err_and c.from_residual-in_err-lay.result c.from_residual-in_err-lay.ensures.1 in
+    let cleared = c.in_ok-clear.ensures.crash c.args.digest.now bytes whole begins has in
+    let head : IsHead c.args.digest.now (magic ++ c.args.digest.now) = record { parts = refl; size = c.told-digest } in
+    let laid = c.in_err-lay.ensures.crash c.args.digest.now (magic ++ c.args.digest.now) head (c.deref.ensures.value ∙ c.in_ok-header.ensures) cleared.1 in
+    rw (p.1, p.2) (record { any_moment = during_then cleared.0 laid.0; found = tt; no_refusal = tt })
+
+pub returns-clause-crash : goal.returns-clause-crash
+returns-clause-crash g c bytes whole begins has =
+    let cleared = c.in_ok-clear.ensures.crash c.args.digest.now bytes whole begins has in
+    let head : IsHead c.args.digest.now (magic ++ c.args.digest.now) = record { parts = refl; size = c.told-digest } in
+    let laid = c.in_ok-lay.ensures.crash c.args.digest.now (magic ++ c.args.digest.now) head (c.deref.ensures.value ∙ c.in_ok-header.ensures) cleared.1 in
+    record {
+      any_moment = during_then cleared.0 laid.0;
+      found = record { entries_are = c.new.ensures.items; last = []; sound = made_sound c.args.digest.now (magic ++ c.args.digest.now) head laid.1; unfinished = λ e. absurd (cc e) };
+      no_refusal = tt;
+    }

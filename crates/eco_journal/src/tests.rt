@@ -1,0 +1,46 @@
+//! What the clauses don't say: the bytes, the order of the disk's calls, and that each call can succeed.
+use super::*;
+use eco_disk::{Call, Disk, MemoryDisk};
+use std::alloc::{AllocError, Global};
+
+mod failing;
+mod images;
+mod layout;
+mod script;
+
+const DIGEST: [u8; 32] = [7; 32];
+
+// An open header of that digest, without the gate behind it.
+const HEADER: [u8; 41] =
+    *b"\x01ECOJRNL1\x07\x07\x07\x07\x07\x07\x07\x07\x07\x07\x07\x07\x07\x07\x07\x07\x07\x07\x07\x07\x07\x07\x07\x07\x07\x07\x07\x07\x07\x07\x07\x07";
+
+// A disk with these bytes behind such a header.
+fn headed(alloc: Global, tail: &[u8], failing: &[u64]) -> Result<MemoryDisk, AllocError> {
+    let mut bytes = Vec::from_slice(alloc, &HEADER)?;
+    bytes.extend_from_slice(tail)?;
+    Ok(MemoryDisk::new(bytes, Vec::from_slice(alloc, failing)?))
+}
+
+// The entries that bytes open to, each with a blank behind it; None where they aren't opened.
+fn opens_to(alloc: Global, bytes: &[u8]) -> Result<Option<Vec<u8>>, AllocError> {
+    let disk = MemoryDisk::new(Vec::from_slice(alloc, bytes)?, Vec::new(alloc));
+    let Ok((_, entries)) = Journal::start(alloc, disk, DIGEST) else {
+        return Ok(None);
+    };
+    let mut all = Vec::new(alloc);
+    for entry in entries.iter() {
+        all.extend_from_slice(entry.bytes())?;
+        all.extend_from_slice(b" ")?;
+    }
+    Ok(Some(all))
+}
+
+fn is_some_of(found: &Option<Vec<u8>>, allowed: &[&[u8]]) -> bool {
+    match found {
+        Some(bytes) => {
+            let bytes = bytes.as_slice();
+            allowed.iter().any(|&entries| entries == bytes)
+        }
+        None => false,
+    }
+}
