@@ -2,7 +2,7 @@ use Rattle.std.proofs.Common.{ℕ, ◌+◌, ◌-◌, ◌≤◌, ◌≡◌, List,
 use Rattle.std.proofs.Math.Seq.{take-append_seam, drop-append_seam, drop-append-add}
 use Rattle.std.proofs.lemmas.List.{length-take-le, drop-drop, take-append-le, drop-append-le, take-append-drop}
 use Rattle.eco_bench.specs.declared.Span.{Span}
-use Rattle.eco_bench.specs.Region.{Area, with_part, with_words, words_of, Stands, AreApart, SetsWords}
+use Rattle.eco_bench.specs.Region.{Area, with_part, with_words, words_of, Stands, AreApart, ChangesOnly, SetsWords}
 
 pub take-front : (n : ℕ) (xs ys : List ℕ) → n ≡ length xs → take n (xs ++ ys) ≡ xs
 take-front n xs ys e = rw e (take-append_seam xs ys)
@@ -91,11 +91,17 @@ words_of-apart old span other part stands fits size apart =
       | inr before ↦ piece-before old.words part span.start other.start (other.start + other.len - other.start) within (omega (arith, before, count))
     ]
 
+pub written-only : (old : Area) (span : Span) (part : List ℕ) → Stands old span → old.used ≤ length old.words → length part ≡ span.len →
+    ChangesOnly old (with_words old span.start part) span
+written-only old span part stands fits size = record {
+  used = refl;
+  size = length-with_part old.words part span.start (omega (arith, stands, fits, size));
+  apart = λ other apart. words_of-apart old span other part stands fits size apart;
+}
+
 pub written-words : (old : Area) (span : Span) (part : List ℕ) → Stands old span → old.used ≤ length old.words → length part ≡ span.len →
     SetsWords old (with_words old span.start part) span part
 written-words old span part stands fits size = record {
-  used = refl;
-  size = length-with_part old.words part span.start (omega (arith, stands, fits, size));
   changed = words_of-written old span part stands fits size;
-  apart = λ other apart. words_of-apart old span other part stands fits size apart;
+  only = written-only old span part stands fits size;
 }

@@ -48,9 +48,13 @@ with_part words start part = refill words (take start words ++ (part ++ drop (le
 abbrev pub with_words : Area → ℕ → List ℕ → Area
 with_words a start part = record { words = with_part a.words start part; used = a.used }
 
--- the words of a span are changed to others; the spans that lie apart from it keep their words
-pub record SetsWords (old new : Area) (span : Span) (part : List ℕ) : Type 0 where
+-- the same spans stand, and those that lie apart from one keep their words
+pub record ChangesOnly (old new : Area) (span : Span) : Type 0 where
   pub used : new.used ≡ old.used
   pub size : length new.words ≡ length old.words
-  pub changed : words_of new span ≡ part
   pub apart : (other : Span) → AreApart span other → words_of new other ≡ words_of old other
+
+-- the words of a span are changed to others, and no other span is changed
+pub record SetsWords (old new : Area) (span : Span) (part : List ℕ) : Type 0 where
+  pub changed : words_of new span ≡ part
+  pub only : ChangesOnly old new span

@@ -1,0 +1,92 @@
+use Rattle.std.proofs.Common.{ℕ, zero, suc, ◌+◌, ◌<◌, ◌≡◌, List, length, Option, Some, None, IsSome, Bool, refl, sym, ap, ◌∙◌, arith, subst, length-drop}
+use Rattle.eco_match.specs.declared.search.Table.{Table}
+use Rattle.eco_match.specs.declared.search.Gates.{Gates}
+use Rattle.eco_match.specs.declared.search.Tree.{Tree}
+use Rattle.eco_match.specs.declared.pairs.Rows.{Rows}
+use Rattle.eco_match.specs.declared.answer.MatchOut.{MatchOut}
+use Rattle.eco_match.specs.Least.{Certifies, IsShort, one_if, is_wanted, IsLeast, HasNone, AreBelow}
+use Rattle.eco_match.specs.Phase.{IsTable, Matched}
+use Rattle.eco_match.specs.Solve.{IsStuck}
+use Rattle.eco_match.specs.Rows.{AreParts, AreRising, RowsRise, starts_of, ends_of, spares_of, costs_of, row_cost, table_cost, parts_cost, chosen_spare, chosen_worth, chosen_price, short_gate, TellsGate, out_spare, out_worth, out_price, out_short}
+use Rattle.eco_match.proofs.Result.{shows-ended, short-blocked}
+use Rattle.eco_match.proofs.Signed.{shows-certifies, certifies-least}
+use Rattle.eco_match.proofs.Laws.{short-none}
+use Rattle.eco_match.proofs.Find.{table-some, Pair}
+use Rattle.eco_match.proofs.Sums.{sum-same}
+
+-- the table is made of the parts
+pub record FromParts (r : Rows) (head columns : List ℕ) (t : Table) : Type 0 where
+  pub parts : AreParts r head columns
+  pub starts : t.starts.now ≡ starts_of r head
+  pub ends : t.ends.now ≡ ends_of r head
+  pub spares : t.spares.now ≡ spares_of r columns
+  pub costs : t.costs.now ≡ costs_of r columns
+
+pub table-good : (r : Rows) (head columns : List ℕ) (t : Table) → FromParts r head columns t → IsTable r.spares t
+table-good r head columns t f =
+    rw (f.starts, f.ends, f.spares, f.costs) f.parts.good
+
+pub table-rising : (r : Rows) (head columns : List ℕ) (t : Table) → FromParts r head columns t → AreRising t
+table-rising r head columns t f =
+    subst (λ (xs : List ℕ). RowsRise xs t.ends.now t.spares.now) (sym f.starts)
+    (subst (λ (xs : List ℕ). RowsRise (starts_of r head) xs t.spares.now) (sym f.ends)
+    (subst (λ (xs : List ℕ). RowsRise (starts_of r head) (ends_of r head) xs) (sym f.spares) f.parts.rising))
+
+pub table-inside : (r : Rows) (head columns : List ℕ) (t : Table) → FromParts r head columns t → r.gates < length t.ends.now
+table-inside r head columns t f =
+    let e = ap (λ (xs : List ℕ). length xs) f.ends in
+    let d = length-drop (r.gates + 1) head in
+    omega (arith, e, d, f.parts.head_len)
+
+pub table-costs : (r : Rows) (head columns : List ℕ) (t : Table) → FromParts r head columns t → table_cost t ≡ parts_cost r head columns
+table-costs r head columns t f =
+    ap (λ (xs : List ℕ). row_cost xs t.ends.now t.spares.now t.costs.now) f.starts
+    ∙ ap (λ (xs : List ℕ). row_cost (starts_of r head) xs t.spares.now t.costs.now) f.ends
+    ∙ ap (λ (xs : List ℕ). row_cost (starts_of r head) (ends_of r head) xs t.costs.now) f.spares
+    ∙ ap (λ (xs : List ℕ). row_cost (starts_of r head) (ends_of r head) (spares_of r columns) xs) f.costs
+
+pub answer-all : (r : Rows) (head columns : List ℕ) (t : Table) (owner : List ℕ) (g : Gates) (out : MatchOut) → FromParts r head columns t → length owner ≡ r.spares → Matched r.gates r.gates t owner g → ((k : ℕ) → k < r.gates → TellsGate t g out k) → Certifies r.gates (parts_cost r head columns) (out_spare out) (out_worth out) (out_price out)
+answer-all r head columns t owner g out f size matched tells =
+    subst (λ (costs : ℕ → ℕ → Option ℕ). Certifies r.gates costs (out_spare out) (out_worth out) (out_price out)) (table-costs r head columns t f)
+    (shows-certifies r.gates (table_cost t) (chosen_spare t g) (out_spare out) (chosen_worth g) (chosen_price g) (out_worth out) (out_price out)
+    (shows-ended r.gates t owner g (record { table = rw size (table-good r head columns t f); inside = table-inside r head columns t f; rising = table-rising r head columns t f; matched = matched }))
+    (λ k less. (tells k less).spare) (λ k less. (tells k less).worth) (λ k less. (tells k less).price))
+
+wanted-same : (costs : ℕ → ℕ → Option ℕ) (a b : ℕ → Bool) (n s : ℕ) → ((k : ℕ) → k < n → a k ≡ b k) → is_wanted costs a n s ≡ is_wanted costs b n s
+wanted-same costs a b zero s same = refl
+wanted-same costs a b (suc n) s same =
+    let here : a n ≡ b n = same n (omega arith) in
+    let before : is_wanted costs a n s ≡ is_wanted costs b n s = wanted-same costs a b n s (λ k less. same k (omega arith)) in
+    rw (here, before) refl
+
+short-same : (gates spares : ℕ) (costs : ℕ → ℕ → Option ℕ) (a b : ℕ → Bool) → ((k : ℕ) → k < gates → a k ≡ b k) → IsShort gates spares costs b → IsShort gates spares costs a
+short-same gates spares costs a b same short =
+    let left = sum-same (λ s. one_if (is_wanted costs a gates s)) (λ s. one_if (is_wanted costs b gates s)) spares (λ s less. ap one_if (wanted-same costs a b gates s same)) in
+    let right = sum-same (λ k. one_if (a k)) (λ k. one_if (b k)) gates (λ k less. ap one_if (same k less)) in
+    omega (arith, left, right, short)
+
+pub answer-short : (r : Rows) (head columns : List ℕ) (t : Table) (owner : List ℕ) (root reached : ℕ) (g : Gates) (tree : Tree) (out : MatchOut) → FromParts r head columns t → length owner ≡ r.spares → IsStuck root reached r.gates t owner g tree → ((k : ℕ) → k < r.gates → out_short out k ≡ short_gate tree k) → IsShort r.gates r.spares (parts_cost r head columns) (out_short out)
+answer-short r head columns t owner root reached g tree out f size stuck tells =
+    subst (λ (costs : ℕ → ℕ → Option ℕ). IsShort r.gates r.spares costs (out_short out)) (table-costs r head columns t f)
+    (short-same r.gates r.spares (table_cost t) (out_short out) (short_gate tree) tells
+    (subst (λ (n : ℕ). IsShort r.gates n (table_cost t) (short_gate tree)) size
+    (short-blocked root reached r.gates t owner g tree (record { table = rw size (table-good r head columns t f); inside = table-inside r head columns t f; few = f.parts.gates; stuck = stuck }))))
+
+below-at : (r : Rows) (head columns : List ℕ) (t : Table) → FromParts r head columns t → (g s : ℕ) → g < r.gates → (o : Option ℕ) → table_cost t g s ≡ o → IsSome o → s < r.spares
+below-at r head columns t f g s less None is some = absurd (cc)
+below-at r head columns t f g s less (Some c) is some =
+    let p : Pair t g s c = table-some t g s c is in
+    let good : IsTable r.spares t = table-good r head columns t f in
+    let end = good.rows (g + 1) (let e = table-inside r head columns t f in omega (arith, less, e)) in
+    let inner = good.below p.place (omega (arith, end, p.row.1)) in
+    omega (arith, inner, p.spare_is)
+
+parts-below : (r : Rows) (head columns : List ℕ) (t : Table) → FromParts r head columns t → AreBelow r.gates r.spares (parts_cost r head columns)
+parts-below r head columns t f = λ g s less some.
+    below-at r head columns t f g s less (parts_cost r head columns g s) (ap (λ (k : ℕ → ℕ → Option ℕ). k g s) (table-costs r head columns t f)) some
+
+pub none-short : (r : Rows) (head columns : List ℕ) (t : Table) (out : MatchOut) → FromParts r head columns t → IsShort r.gates r.spares (parts_cost r head columns) (out_short out) → HasNone r.gates (parts_cost r head columns)
+none-short r head columns t out f short = short-none r.gates r.spares (parts_cost r head columns) (out_short out) (parts-below r head columns t f) short
+
+pub least-all : (gates : ℕ) (costs : ℕ → ℕ → Option ℕ) (out : MatchOut) → Certifies gates costs (out_spare out) (out_worth out) (out_price out) → IsLeast gates costs (out_spare out)
+least-all gates costs out cert = certifies-least gates costs (out_spare out) (out_worth out) (out_price out) cert

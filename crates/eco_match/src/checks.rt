@@ -1,0 +1,225 @@
+// Tests of an answer against the rows.
+ghost use Rattle.std.specs.Prelude.{◌≡◌, ℕ, ◌+◌, ◌*◌, ◌≤◌, ◌<◌, ◌^◌, ◌-◌, ◌↔◌, IsTrue, ◌&&◌, is_some, pos, ◌≤ℤ◌, length, slice_index, take, drop};
+ghost use Rattle.eco_match.specs.Least.{sum_below, one_if, is_wanted, IsShort, signed_price_of, Certifies};
+ghost use Rattle.eco_match.specs.Rows.{AreParts, AreRows, parts_cost, rows_cost, out_short, out_spare, out_price, chosen_at, KeepsRule, NoneNegative, AreChosen, DiffersFromEarlier, AllDiffer, AllKeep, out_worth};
+ghost use Rattle.eco_match.specs.Phase.{InRow};
+
+use crate::answer::MatchOut;
+use crate::pairs::{Rows, pair_of, parts_of, table_of};
+use crate::search::Table;
+use eco_bench::Bench;
+
+/// Whether a gate is in the set and has the spare as a candidate.
+fn gate_wants(
+    rows: &Rows,
+    head: &[u64],
+    columns: &[u64],
+    out: &MatchOut,
+    gate: usize,
+    spare: u64,
+) -> bool
+    requires parts { AreParts rows.now head.now columns.now }
+    requires gate { gate < rows.now.gates }
+    ensures { result ≡ (out_short out.now gate && is_some (parts_cost rows.now head.now columns.now gate spare)) }
+{
+    let cost = pair_of(rows, head, columns, gate, spare);
+    out.short[gate] && cost.is_some()
+}
+
+/// Whether some gate of the set has the spare as a candidate.
+fn wants(rows: &Rows, head: &[u64], columns: &[u64], out: &MatchOut, spare: u64) -> bool
+    requires { AreParts rows.now head.now columns.now }
+    ensures { result ≡ is_wanted (parts_cost rows.now head.now columns.now) (out_short out.now) rows.now.gates spare }
+{
+    let mut left = rows.gates;
+    'gates: while left > 0 {
+        left -= 1;
+        if gate_wants(rows, head, columns, out, left, spare) {
+            return true;
+        }
+    }
+    false
+}
+
+/// How many spares are candidates of the set.
+fn wanted(rows: &Rows, head: &[u64], columns: &[u64], out: &MatchOut) -> usize
+    requires { AreParts rows.now head.now columns.now }
+    ensures { result ≡ sum_below (λ s. one_if (is_wanted (parts_cost rows.now head.now columns.now) (out_short out.now) rows.now.gates s)) rows.now.spares }
+{
+    let mut count = 0;
+    for spare in 0..rows.spares {
+        if wants(rows, head, columns, out, spare as u64) {
+            count += 1;
+        }
+    }
+    count
+}
+
+/// How many gates the set has.
+fn members(rows: &Rows, out: &MatchOut) -> usize
+    requires { rows.now.gates < 129 }
+    ensures { result ≡ sum_below (λ g. one_if (out_short out.now g)) rows.now.gates }
+{
+    let mut count = 0;
+    for gate in 0..rows.gates {
+        if out.short[gate] {
+            count += 1;
+        }
+    }
+    count
+}
+
+/// Whether the answer's set of gates has fewer candidates than members.
+pub fn check_short(bench: &Bench, rows: &Rows, out: &MatchOut) -> bool
+    requires { AreRows bench.now rows.now }
+    ensures { IsTrue result ↔ IsShort rows.now.gates rows.now.spares (rows_cost bench.now rows.now) (out_short out.now) }
+{
+    let (head, columns) = parts_of(rows, bench.words(rows.span));
+    is_short(rows, head, columns, out)
+}
+
+fn is_short(rows: &Rows, head: &[u64], columns: &[u64], out: &MatchOut) -> bool
+    requires { AreParts rows.now head.now columns.now }
+    ensures { IsTrue result ↔ IsShort rows.now.gates rows.now.spares (parts_cost rows.now head.now columns.now) (out_short out.now) }
+{
+    wanted(rows, head, columns, out) < members(rows, out)
+}
+
+/// Whether the worth of a gate less its price, which isn't below 0, is the cost of its spare.
+fn is_chosen(rows: &Rows, head: &[u64], columns: &[u64], out: &MatchOut, gate: usize) -> bool
+    requires parts { AreParts rows.now head.now columns.now }
+    requires gate { gate < rows.now.gates }
+    ensures { IsTrue result ↔ chosen_at (parts_cost rows.now head.now columns.now) out.now gate }
+{
+    let worth = out.worth[gate];
+    let price = out.price[gate];
+    match pair_of(rows, head, columns, gate, u64::from(out.spare[gate])) {
+        None => false,
+        Some(cost) => price >= 0 && worth >= price && worth - price == i128::from(cost),
+    }
+}
+
+/// The price of a spare: that of the gate that has it, or 0.
+fn price_of(out: &MatchOut, count: usize, spare: u64) -> i128
+    requires count { count < 129 }
+    requires prices { NoneNegative out.now count }
+    ensures price { result ≡ signed_price_of (out_spare out.now) (out_price out.now) count spare }
+    ensures low { pos 0 ≤ℤ result }
+{
+    let mut left = count;
+    'gates: while left > 0 {
+        left -= 1;
+        if u64::from(out.spare[left]) == spare {
+            return out.price[left];
+        }
+    }
+    0
+}
+
+fn keeps_rule(table: &Table<'_>, out: &MatchOut, count: usize, gate: usize, pair: usize) -> bool
+    requires count { (count < 129) × (gate < count) }
+    requires prices { NoneNegative out.now count }
+    requires pair { pair < length table.now.spares.now }
+    requires costs { length table.now.costs.now ≡ length table.now.spares.now }
+    ensures { IsTrue result ↔ KeepsRule table.now out.now count gate pair }
+{
+    let worth = out.worth[gate];
+    let price = price_of(out, count, table.spares[pair]);
+    worth <= price || worth - price <= i128::from(table.costs[pair])
+}
+
+/// Whether all pairs of a gate keep the rule.
+fn row_keeps(table: &Table<'_>, out: &MatchOut, count: usize, gate: usize) -> bool
+    requires count { (count < 129) × (gate < count) }
+    requires prices { NoneNegative out.now count }
+    requires ends { length table.now.ends.now ≡ length table.now.starts.now }
+    requires inside { gate + 1 < length table.now.ends.now }
+    requires row { slice_index table.now.ends.now (gate + 1) ≤ length table.now.spares.now }
+    requires costs { length table.now.costs.now ≡ length table.now.spares.now }
+    ensures { IsTrue result ↔ ((j : ℕ) → InRow table.now (gate + 1) j → KeepsRule table.now out.now count gate j) }
+{
+    let start = table.starts[gate + 1] as usize;
+    let end = table.ends[gate + 1] as usize;
+    for pair in start..end {
+        if !keeps_rule(table, out, count, gate, pair) {
+            return false;
+        }
+    }
+    true
+}
+
+fn all_chosen(rows: &Rows, head: &[u64], columns: &[u64], out: &MatchOut) -> bool
+    requires parts { AreParts rows.now head.now columns.now }
+    ensures { IsTrue result ↔ AreChosen rows.now.gates (parts_cost rows.now head.now columns.now) out.now }
+{
+    for gate in 0..rows.gates {
+        if !is_chosen(rows, head, columns, out, gate) {
+            return false;
+        }
+    }
+    true
+}
+
+fn differs(out: &MatchOut, gate: usize) -> bool
+    requires { gate < 128 }
+    ensures { IsTrue result ↔ DiffersFromEarlier out.now gate }
+{
+    for earlier in 0..gate {
+        if out.spare[earlier] == out.spare[gate] {
+            return false;
+        }
+    }
+    true
+}
+
+fn all_differ(out: &MatchOut, count: usize) -> bool
+    requires { count < 129 }
+    ensures { IsTrue result ↔ AllDiffer out.now count }
+{
+    for gate in 0..count {
+        if !differs(out, gate) {
+            return false;
+        }
+    }
+    true
+}
+
+fn all_keep(table: &Table<'_>, out: &MatchOut, count: usize) -> bool
+    requires count { count < 129 }
+    requires prices { NoneNegative out.now count }
+    requires ends { length table.now.ends.now ≡ length table.now.starts.now }
+    requires inside { count < length table.now.ends.now }
+    requires rows { (g : ℕ) → g < length table.now.ends.now → slice_index table.now.ends.now g ≤ length table.now.spares.now }
+    requires costs { length table.now.costs.now ≡ length table.now.spares.now }
+    ensures { IsTrue result ↔ AllKeep table.now out.now count }
+{
+    for gate in 0..count {
+        if !row_keeps(table, out, count, gate) {
+            return false;
+        }
+    }
+    true
+}
+
+fn check_parts(rows: &Rows, head: &[u64], columns: &[u64], out: &MatchOut) -> bool
+    requires parts { AreParts rows.now head.now columns.now }
+    ensures { IsTrue result ↔ Certifies rows.now.gates (parts_cost rows.now head.now columns.now) (out_spare out.now) (out_worth out.now) (out_price out.now) }
+{
+    if !all_chosen(rows, head, columns, out) {
+        return false;
+    }
+    if !all_differ(out, rows.gates) {
+        return false;
+    }
+    let table = table_of(rows, head, columns);
+    all_keep(&table, out, rows.gates)
+}
+
+/// Whether the answer is a mapping with worths and prices that show it least.
+pub fn check_prices(bench: &Bench, rows: &Rows, out: &MatchOut) -> bool
+    requires { AreRows bench.now rows.now }
+    ensures { IsTrue result ↔ Certifies rows.now.gates (rows_cost bench.now rows.now) (out_spare out.now) (out_worth out.now) (out_price out.now) }
+{
+    let (head, columns) = parts_of(rows, bench.words(rows.span));
+    check_parts(rows, head, columns, out)
+}

@@ -1,0 +1,76 @@
+// A least mapping, or a short set.
+ghost use Rattle.std.specs.Prelude.{◌≡◌, ℕ, ◌+◌, ◌<◌, ◌^◌, length};
+ghost use Rattle.eco_bench.specs.Region.{ChangesOnly};
+ghost use Rattle.eco_match.specs.Rows.{AreParts, AreRows, work_len, parts_cost, rows_cost, short_gate, out_short, TellsGate, IsAnswer, IsExact};
+ghost use Rattle.eco_match.specs.Phase.{AreBounded, spare_at, pair_at};
+
+use crate::answer::{MatchOut, Matching};
+use crate::pairs::{Rows, table_of};
+use crate::search::{Gates, Table, Tree};
+use crate::solve::{Solved, solve};
+use eco_bench::Bench;
+
+/// A least mapping with worths and prices, or a short set.
+pub fn match_least(bench: &mut Bench, rows: &Rows, out: &mut MatchOut) -> Matching
+    requires rows { AreRows bench.old rows.now }
+    ensures answer { IsAnswer rows.now.gates rows.now.spares (rows_cost bench.old rows.now) out.new result }
+    ensures exact { IsExact rows.now.gates (rows_cost bench.old rows.now) out.new result }
+    ensures kept { ChangesOnly bench.old bench.new rows.now.span }
+    ensures rows { AreRows bench.new rows.now }
+    ensures costs { rows_cost bench.new rows.now ≡ rows_cost bench.old rows.now }
+{
+    let words = bench.words_mut(rows.span);
+    let (head, rest) = words.split_at_mut(2 * (rows.gates + 1));
+    let (work, columns) = rest.split_at_mut(rows.work_words());
+    match_parts(rows, head, work, columns, out)
+}
+
+fn match_parts(
+    rows: &Rows,
+    head: &[u64],
+    work: &mut [u64],
+    columns: &[u64],
+    out: &mut MatchOut,
+) -> Matching
+    requires parts { AreParts rows.now head.now columns.now }
+    requires work { length work.old ≡ work_len rows.now }
+    requires spares { rows.now.spares < 2 ^ 32 }
+    ensures answer { IsAnswer rows.now.gates rows.now.spares (parts_cost rows.now head.now columns.now) out.new result }
+    ensures exact { IsExact rows.now.gates (parts_cost rows.now head.now columns.now) out.new result }
+{
+    let table = table_of(rows, head, columns);
+    let (owner, _) = work.split_at_mut(rows.spares);
+    match solve(&table, owner, rows.gates) {
+        Solved::All(gates) => {
+            tell_matched(&table, &gates, rows.gates, out);
+            Matching::Matched
+        }
+        Solved::Stuck(tree) => {
+            tell_short(&tree, rows.gates, out);
+            Matching::Short
+        }
+    }
+}
+
+fn tell_matched(table: &Table<'_>, gates: &Gates, count: usize, out: &mut MatchOut)
+    requires count { count < 129 }
+    requires bounded { AreBounded count gates.now }
+    requires pairs { (k : ℕ) → k < count → pair_at gates.now (k + 1) < length table.now.spares.now }
+    requires small { (j : ℕ) → j < length table.now.spares.now → spare_at table.now j < 2 ^ 32 }
+    ensures { (k : ℕ) → k < count → TellsGate table.now gates.now out.new k }
+{
+    for gate in 0..count {
+        out.spare[gate] = table.spares[gates.pair[gate + 1]] as u32;
+        out.worth[gate] = gates.worth[gate + 1] as i128;
+        out.price[gate] = gates.price[gate + 1] as i128;
+    }
+}
+
+fn tell_short(tree: &Tree, count: usize, out: &mut MatchOut)
+    requires { count < 129 }
+    ensures { (k : ℕ) → k < count → out_short out.new k ≡ short_gate tree.now k }
+{
+    for gate in 0..count {
+        out.short[gate] = tree.rank[gate + 1] > 0;
+    }
+}

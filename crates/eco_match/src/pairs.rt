@@ -1,0 +1,183 @@
+// The candidate pairs of a matching and their costs, in a span of a bench.
+ghost use Rattle.std.specs.Prelude.{◌≡◌, ℕ, ◌+◌, ◌*◌, ◌≤◌, ◌<◌, length, slice_index, take, drop, ◌^◌, ◌-◌, None};
+ghost use Rattle.eco_bench.specs.declared.Span.{Span};
+ghost use Rattle.eco_bench.specs.Region.{Stands, ChangesOnly, room_of, words_of};
+ghost use Rattle.eco_match.specs.Rows.{AreParts, AreRows, head_of, columns_of, starts_of, ends_of, spares_of, costs_of, parts_cost, rows_cost, find_cost, need, work_len, PairWritten, ComesNext, with_pair, wider};
+
+use crate::search::Table;
+use eco_bench::{Bench, Span};
+
+/// Where the rows of a problem stand, and how many pairs they have so far.
+#[derive(Clone, Copy, Debug)]
+pub struct Rows {
+    pub span: Span,
+    pub gates: usize,
+    pub spares: usize,
+    pub pairs: usize,
+    pub filled: usize,
+}
+
+/// How many words the rows and the search take.
+pub fn bench_need(gates: u32, spares: u32, pairs: u32) -> usize
+    ensures { result ≡ need gates spares pairs }
+{
+    8 * (gates as usize + spares as usize) + 2 * pairs as usize + 64
+}
+
+impl Rows {
+    /// How many words the search works in: an owner for each spare, and five words for each place.
+    pub fn work_words(&self) -> usize
+        requires few { (self.now.gates < 129) × (self.now.spares < 2 ^ 32) }
+        ensures { result ≡ work_len self.now }
+    {
+        self.spares + 5 * (self.gates + 1)
+    }
+
+    /// Carves the words of a problem, with no pair yet.
+    pub fn begin(bench: &mut Bench, gates: u32, spares: u32, pairs: u32) -> Rows
+        requires room { need gates spares pairs ≤ room_of bench.old }
+        requires gates { gates ≤ 128 }
+        ensures sizes { (result.gates ≡ gates) × (result.spares ≡ spares) × (result.pairs ≡ pairs) × (result.filled ≡ 0) }
+        ensures rows { AreRows bench.new result }
+        ensures empty { (g s : ℕ) → rows_cost bench.new result g s ≡ None }
+        ensures span { (result.span.start ≡ bench.old.used) × (result.span.len ≡ need gates spares pairs) }
+        ensures used { bench.new.used ≡ bench.old.used + need gates spares pairs }
+        ensures kept { (other : Span) → Stands bench.old other → words_of bench.new other ≡ words_of bench.old other }
+    {
+        let span = bench.carve(bench_need(gates, spares, pairs));
+        let rows = Rows {
+            span,
+            gates: gates as usize,
+            spares: spares as usize,
+            pairs: pairs as usize,
+            filled: 0,
+        };
+        clear(bench.words_mut(span), 2 * (rows.gates + 1));
+        rows
+    }
+
+    /// Adds a pair behind the others.
+    pub fn add(&mut self, bench: &mut Bench, gate: u32, spare: u32, cost: u64)
+        requires rows { AreRows bench.old self.old }
+        requires gate { gate < self.old.gates }
+        requires spare { spare < self.old.spares }
+        requires room { self.old.filled < self.old.pairs }
+        requires cost { cost < 2 ^ 57 }
+        requires next { ComesNext self.old.gates (rows_cost bench.old self.old) gate spare }
+        ensures shape { self.new ≡ wider self.old }
+        ensures rows { AreRows bench.new self.new }
+        ensures added { (g s : ℕ) → g < self.old.gates → rows_cost bench.new self.new g s ≡ with_pair (rows_cost bench.old self.old) gate spare cost g s }
+        ensures kept { ChangesOnly bench.old bench.new self.old.span }
+    {
+        let words = bench.words_mut(self.span);
+        let (head, rest) = words.split_at_mut(2 * (self.gates + 1));
+        let (_, columns) = rest.split_at_mut(self.work_words());
+        write_pair(self, head, columns, gate as usize, spare as u64, cost);
+        self.filled += 1;
+    }
+
+    /// The cost of a gate on a spare, or None where they are no pair.
+    pub fn pair(&self, bench: &Bench, gate: u32, spare: u32) -> Option<u64>
+        requires rows { AreRows bench.now self.now }
+        requires gate { gate < self.now.gates }
+        ensures { result ≡ rows_cost bench.now self.now gate spare }
+    {
+        let (head, columns) = parts_of(self, bench.words(self.span));
+        pair_of(self, head, columns, gate as usize, u64::from(spare))
+    }
+}
+
+/// The parts of the words of the rows that hold the pairs.
+pub fn parts_of<'a>(rows: &Rows, words: &'a [u64]) -> (&'a [u64], &'a [u64])
+    requires few { (rows.now.gates < 129) × (rows.now.spares < 2 ^ 32) }
+    requires size { 2 * (rows.now.gates + 1) + work_len rows.now ≤ length words.now }
+    ensures head { result.0.now ≡ head_of rows.now words.now }
+    ensures columns { result.1.now ≡ columns_of rows.now words.now }
+{
+    let (head, rest) = words.split_at(2 * (rows.gates + 1));
+    let (_, columns) = rest.split_at(rows.work_words());
+    (head, columns)
+}
+
+pub fn table_of<'a>(rows: &Rows, head: &'a [u64], columns: &'a [u64]) -> Table<'a>
+    requires { AreParts rows.now head.now columns.now }
+    ensures starts { result.starts.now ≡ starts_of rows.now head.now }
+    ensures ends { result.ends.now ≡ ends_of rows.now head.now }
+    ensures spares { result.spares.now ≡ spares_of rows.now columns.now }
+    ensures costs { result.costs.now ≡ costs_of rows.now columns.now }
+{
+    let (starts, ends) = head.split_at(rows.gates + 1);
+    let (spares, costs) = columns.split_at(rows.pairs);
+    Table {
+        starts,
+        ends,
+        spares: &spares[..rows.filled],
+        costs: &costs[..rows.filled],
+    }
+}
+
+fn clear(words: &mut [u64], count: usize)
+    requires { count ≤ length words.old }
+    ensures { (k : ℕ) → k < count → slice_index words.new k ≡ 0 }
+{
+    for place in 0..count {
+        words[place] = 0;
+    }
+}
+
+fn write_pair(
+    rows: &Rows,
+    head: &mut [u64],
+    columns: &mut [u64],
+    gate: usize,
+    spare: u64,
+    cost: u64,
+)
+    requires parts { AreParts rows.now head.old columns.old }
+    requires gate { gate < rows.now.gates }
+    requires room { rows.now.filled < rows.now.pairs }
+    ensures { PairWritten rows.now (gate + 1) spare cost head.old columns.old head.new columns.new }
+{
+    let (starts, ends) = head.split_at_mut(rows.gates + 1);
+    let (spares, costs) = columns.split_at_mut(rows.pairs);
+    if ends[gate + 1] == 0 {
+        starts[gate + 1] = rows.filled as u64;
+    }
+    ends[gate + 1] = rows.filled as u64 + 1;
+    spares[rows.filled] = spare;
+    costs[rows.filled] = cost;
+}
+
+/// The same by halving, in a row whose spares rise.
+fn find_halving(spares: &[u64], costs: &[u64], start: usize, end: usize, spare: u64) -> Option<u64>
+    requires end { end ≤ length spares.now }
+    requires costs { length costs.now ≡ length spares.now }
+    requires rising { (i j : ℕ) → start ≤ i → i < j → j < end → slice_index spares.now i < slice_index spares.now j }
+    ensures { result ≡ find_cost spares.now costs.now spare start (end - start) }
+{
+    let mut low = start;
+    let mut high = end;
+    'halves: while low < high {
+        let middle = low + (high - low) / 2;
+        if spares[middle] == spare {
+            return Some(costs[middle]);
+        }
+        if spares[middle] < spare {
+            low = middle + 1;
+        } else {
+            high = middle;
+        }
+    }
+    None
+}
+
+pub fn pair_of(rows: &Rows, head: &[u64], columns: &[u64], gate: usize, spare: u64) -> Option<u64>
+    requires parts { AreParts rows.now head.now columns.now }
+    requires gate { gate < rows.now.gates }
+    ensures { result ≡ parts_cost rows.now head.now columns.now gate spare }
+{
+    let table = table_of(rows, head, columns);
+    let start = table.starts[gate + 1] as usize;
+    let end = table.ends[gate + 1] as usize;
+    find_halving(table.spares, table.costs, start, end, spare)
+}
