@@ -5,9 +5,9 @@ use Rattle.eco_match.specs.declared.answer.MatchOut.{MatchOut}
 use Rattle.eco_match.specs.Least.{Certifies, signed_price_of}
 use Rattle.eco_match.specs.Phase.{spare_at, cost_at}
 use Rattle.eco_match.specs.Rows.{table_cost, parts_cost, out_spare, out_worth, out_price, IsChosen, KeepsRule, AreChosen, AllDiffer, AllKeep}
-use Rattle.eco_match.proofs.Reach.{below, same, above, compare'}
 use Rattle.eco_match.proofs.Find.{table-some, table-pair, Pair}
 use Rattle.eco_match.proofs.Parts.{FromParts, table-rising, table-costs}
+use Rattle.eco_match.proofs.Order.{below, same, above, compare'}
 
 some-from : (o : Option ℕ) (w p : ℤ) → IsChosen o w p → IsSome o
 some-from None w p h = absurd h

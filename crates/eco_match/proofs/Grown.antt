@@ -4,12 +4,12 @@ use Rattle.std.proofs.lemmas.List.{length-take-le, get_or-take, get_or-set_same,
 use Rattle.eco_bench.specs.Region.{Area, with_words, ChangesOnly}
 use Rattle.eco_match.specs.declared.pairs.Rows.{Rows}
 use Rattle.eco_match.specs.Rows.{AreRows, AreParts, rows_words, work_len, head_of, columns_of, starts_of, ends_of, spares_of, costs_of, rows_cost, parts_cost, PairWritten, ComesNext, wider, with_pair}
-use Rattle.eco_match.proofs.Advance.{split}
 use Rattle.eco_match.proofs.Find.{row-pair}
 use Rattle.eco_bench.proofs.Writing.{take-front, drop-front}
 use Rattle.eco_match.proofs.Kept.{part-len, Written}
 use Rattle.eco_match.proofs.Begun.{Over, rows-written, length-written, only-written}
 use Rattle.eco_match.proofs.Added.{Added, grew-added, cost-added, equal-true, equal-false}
+use Rattle.eco_match.proofs.Order.{split}
 
 pub record Step (r : Rows) (gate spare cost : ℕ) (head columns head' columns' : List ℕ) : Type 0 where
   pub parts : AreParts r head columns

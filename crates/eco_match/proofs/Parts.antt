@@ -1,14 +1,15 @@
-use Rattle.std.proofs.Common.{ℕ, zero, suc, ◌+◌, ◌<◌, ◌≡◌, List, length, Option, Some, None, IsSome, Bool, refl, sym, ap, ◌∙◌, arith, subst, length-drop}
+use Rattle.std.proofs.Common.{ℕ, zero, suc, ◌+◌, ◌<◌, ◌≡◌, List, length, Option, Some, None, IsSome, Bool, refl, sym, ap, ◌∙◌, arith, subst, length-drop, ◌-◌, pos, slice_index, slice_index_or}
 use Rattle.eco_match.specs.declared.search.Table.{Table}
-use Rattle.eco_match.specs.declared.search.Gates.{Gates}
-use Rattle.eco_match.specs.declared.search.Tree.{Tree}
 use Rattle.eco_match.specs.declared.pairs.Rows.{Rows}
 use Rattle.eco_match.specs.declared.answer.MatchOut.{MatchOut}
 use Rattle.eco_match.specs.Least.{Certifies, IsShort, one_if, is_wanted, IsLeast, HasNone, AreBelow}
-use Rattle.eco_match.specs.Phase.{IsTable, Matched}
+use Rattle.eco_match.specs.Phase.{IsTable, Matched, AreBounded}
+use Rattle.eco_match.specs.Work.{natural, worth_at, price_at}
 use Rattle.eco_match.specs.Solve.{IsStuck}
-use Rattle.eco_match.specs.Rows.{AreParts, AreRising, RowsRise, starts_of, ends_of, spares_of, costs_of, row_cost, table_cost, parts_cost, chosen_spare, chosen_worth, chosen_price, short_gate, TellsGate, out_spare, out_worth, out_price, out_short}
-use Rattle.eco_match.proofs.Result.{shows-ended, short-blocked}
+use Rattle.eco_match.specs.Rows.{AreParts, AreRising, RowsRise, starts_of, ends_of, spares_of, costs_of, row_cost, table_cost, parts_cost, chosen_spare, chosen_worth, chosen_price, short_gate, out_spare, out_worth, out_price, out_short}
+use Rattle.eco_match.proofs.Result.{Ended, shows-ended, short-blocked}
+use Rattle.eco_match.proofs.Place.{pair-spare}
+use Rattle.eco_match.proofs.Numbers.{natural-pos, worth_at-gate, price_at-gate}
 use Rattle.eco_match.proofs.Signed.{shows-certifies, certifies-least}
 use Rattle.eco_match.proofs.Laws.{short-none}
 use Rattle.eco_match.proofs.Find.{table-some, Pair}
@@ -45,12 +46,40 @@ table-costs r head columns t f =
     ∙ ap (λ (xs : List ℕ). row_cost (starts_of r head) (ends_of r head) xs t.costs.now) f.spares
     ∙ ap (λ (xs : List ℕ). row_cost (starts_of r head) (ends_of r head) (spares_of r columns) xs) f.costs
 
-pub answer-all : (r : Rows) (head columns : List ℕ) (t : Table) (owner : List ℕ) (g : Gates) (out : MatchOut) → FromParts r head columns t → length owner ≡ r.spares → Matched r.gates r.gates t owner g → ((k : ℕ) → k < r.gates → TellsGate t g out k) → Certifies r.gates (parts_cost r head columns) (out_spare out) (out_worth out) (out_price out)
-answer-all r head columns t owner g out f size matched tells =
+ended : (r : Rows) (head columns : List ℕ) (t : Table) (owner : List ℕ) (out : MatchOut) → FromParts r head columns t → length owner ≡ r.spares → Matched r.gates r.gates t owner out → Ended r.gates t owner out
+ended r head columns t owner out f size matched =
+    record { table = rw size (table-good r head columns t f); inside = table-inside r head columns t f; rising = table-rising r head columns t f; matched = matched }
+
+-- the numbers of the search are those of the answer
+spare-told : (count : ℕ) (t : Table) (owner : List ℕ) (out : MatchOut) → Ended count t owner out → (k : ℕ) → k < count → out_spare out k ≡ chosen_spare t out k
+spare-told count t owner out w k less =
+    let tight = w.matched.tight (k + 1) (omega arith) (omega arith) in
+    let end = w.table.rows (k + 1) (omega (arith, less, w.inside)) in
+    let e : k + 1 - 1 ≡ k = omega arith in
+    sym (pair-spare t out (k + 1) (omega arith) (omega (arith, tight.row.1, end)) ∙ ap (λ (i : ℕ). slice_index out.spare i) e)
+
+worth-told : (count : ℕ) (out : MatchOut) → count < 129 → AreBounded count out → (k : ℕ) → k < count → out_worth out k ≡ pos (chosen_worth out k)
+worth-told count out few bounded k less =
+    let e : k + 1 - 1 ≡ k = omega arith in
+    let is : worth_at out (k + 1) ≡ natural (out_worth out k) = worth_at-gate out (k + 1) (omega arith) ∙ ap (λ (i : ℕ). natural (slice_index_or out.worth i (pos 0))) e in
+    let b = bounded.worth (k + 1) (omega (arith, few, less)) in
+    natural-pos (out_worth out k) (omega (arith, is, b, few)) ∙ ap pos (sym is)
+
+price-told : (count : ℕ) (out : MatchOut) → count < 129 → AreBounded count out → (k : ℕ) → k < count → out_price out k ≡ pos (chosen_price out k)
+price-told count out few bounded k less =
+    let e : k + 1 - 1 ≡ k = omega arith in
+    let is : price_at out (k + 1) ≡ natural (out_price out k) = price_at-gate out (k + 1) (omega arith) ∙ ap (λ (i : ℕ). natural (slice_index_or out.price i (pos 0))) e in
+    let b = bounded.price (k + 1) (omega (arith, few, less)) in
+    natural-pos (out_price out k) (omega (arith, is, b, few)) ∙ ap pos (sym is)
+
+pub answer-all : (r : Rows) (head columns : List ℕ) (t : Table) (owner : List ℕ) (out : MatchOut) → FromParts r head columns t → length owner ≡ r.spares → Matched r.gates r.gates t owner out → AreBounded r.gates out →
+    Certifies r.gates (parts_cost r head columns) (out_spare out) (out_worth out) (out_price out)
+answer-all r head columns t owner out f size matched bounded =
+    let w = ended r head columns t owner out f size matched in
     subst (λ (costs : ℕ → ℕ → Option ℕ). Certifies r.gates costs (out_spare out) (out_worth out) (out_price out)) (table-costs r head columns t f)
-    (shows-certifies r.gates (table_cost t) (chosen_spare t g) (out_spare out) (chosen_worth g) (chosen_price g) (out_worth out) (out_price out)
-    (shows-ended r.gates t owner g (record { table = rw size (table-good r head columns t f); inside = table-inside r head columns t f; rising = table-rising r head columns t f; matched = matched }))
-    (λ k less. (tells k less).spare) (λ k less. (tells k less).worth) (λ k less. (tells k less).price))
+    (shows-certifies r.gates (table_cost t) (chosen_spare t out) (out_spare out) (chosen_worth out) (chosen_price out) (out_worth out) (out_price out)
+    (shows-ended r.gates t owner out w)
+    (spare-told r.gates t owner out w) (worth-told r.gates out f.parts.gates bounded) (price-told r.gates out f.parts.gates bounded))
 
 wanted-same : (costs : ℕ → ℕ → Option ℕ) (a b : ℕ → Bool) (n s : ℕ) → ((k : ℕ) → k < n → a k ≡ b k) → is_wanted costs a n s ≡ is_wanted costs b n s
 wanted-same costs a b zero s same = refl
@@ -65,7 +94,7 @@ short-same gates spares costs a b same short =
     let right = sum-same (λ k. one_if (a k)) (λ k. one_if (b k)) gates (λ k less. ap one_if (same k less)) in
     omega (arith, left, right, short)
 
-pub answer-short : (r : Rows) (head columns : List ℕ) (t : Table) (owner : List ℕ) (root reached : ℕ) (g : Gates) (tree : Tree) (out : MatchOut) → FromParts r head columns t → length owner ≡ r.spares → IsStuck root reached r.gates t owner g tree → ((k : ℕ) → k < r.gates → out_short out k ≡ short_gate tree k) → IsShort r.gates r.spares (parts_cost r head columns) (out_short out)
+pub answer-short : (r : Rows) (head columns : List ℕ) (t : Table) (owner : List ℕ) (root reached : ℕ) (g : MatchOut) (tree : List ℕ) (out : MatchOut) → FromParts r head columns t → length owner ≡ r.spares → IsStuck root reached r.gates t owner g tree → ((k : ℕ) → k < r.gates → out_short out k ≡ short_gate tree k) → IsShort r.gates r.spares (parts_cost r head columns) (out_short out)
 answer-short r head columns t owner root reached g tree out f size stuck tells =
     subst (λ (costs : ℕ → ℕ → Option ℕ). IsShort r.gates r.spares costs (out_short out)) (table-costs r head columns t f)
     (short-same r.gates r.spares (table_cost t) (out_short out) (short_gate tree) tells

@@ -4,11 +4,10 @@ use Rattle.eco_match.specs.declared.answer.MatchOut.{MatchOut}
 use Rattle.eco_match.specs.declared.answer.Matching.{Matching}
 use Rattle.eco_match.specs.declared.answer.Matching.TheVariants.{Matched, Short}
 use Rattle.eco_match.specs.declared.search.Table.{Table}
-use Rattle.eco_match.specs.declared.search.Gates.{Gates}
-use Rattle.eco_match.specs.declared.search.Tree.{Tree}
 use Rattle.eco_match.specs.declared.pairs.Rows.{Rows}
 use Rattle.eco_bench.specs.Region.{Area, Stands, words_of}
-use Rattle.eco_match.specs.Phase.{AreColumns, InRow, spare_at, cost_at, worth_at, price_at, pair_at, rank_at}
+use Rattle.eco_match.specs.Phase.{AreColumns, InRow, spare_at, cost_at}
+use Rattle.eco_match.specs.Work.{worth_at, price_at, pair_at, rank_at}
 
 -- the cost beside the spare, among n places from one on
 abbrev pub find_cost : List ℕ → List ℕ → ℕ → ℕ → ℕ → Option ℕ
@@ -32,16 +31,16 @@ abbrev pub AreRising : Table → Type 0
 AreRising t = RowsRise t.starts.now t.ends.now t.spares.now
 
 -- the answer, by the gates of the caller
-abbrev pub chosen_spare : Table → Gates → ℕ → ℕ
-chosen_spare t g k = spare_at t (pair_at g (k + 1))
+abbrev pub chosen_spare : Table → MatchOut → ℕ → ℕ
+chosen_spare t g k = spare_at t (pair_at t g (k + 1))
 
-abbrev pub chosen_worth : Gates → ℕ → ℕ
+abbrev pub chosen_worth : MatchOut → ℕ → ℕ
 chosen_worth g k = worth_at g (k + 1)
 
-abbrev pub chosen_price : Gates → ℕ → ℕ
+abbrev pub chosen_price : MatchOut → ℕ → ℕ
 chosen_price g k = price_at g (k + 1)
 
-abbrev pub short_gate : Tree → ℕ → Bool
+abbrev pub short_gate : List ℕ → ℕ → Bool
 short_gate tree k = nat_lt 0 (rank_at tree (k + 1))
 
 -- the words of the rows, and the parts that they are cut into: the head, the work and the columns
@@ -106,11 +105,6 @@ out_price out g = slice_index_or out.price g (pos 0)
 
 abbrev pub out_short : MatchOut → ℕ → Bool
 out_short out g = slice_index_or out.short g false
-
-pub record TellsGate (t : Table) (g : Gates) (out : MatchOut) (k : ℕ) : Type 0 where
-  pub spare : out_spare out k ≡ chosen_spare t g k
-  pub worth : out_worth out k ≡ pos (chosen_worth g k)
-  pub price : out_price out k ≡ pos (chosen_price g k)
 
 -- what the answer shows
 abbrev pub IsAnswer : ℕ → ℕ → (ℕ → ℕ → Option ℕ) → MatchOut → Matching → Type 0

@@ -1,13 +1,13 @@
 // A least mapping, or a short set.
 ghost use Rattle.std.specs.Prelude.{◌≡◌, ℕ, ◌+◌, ◌<◌, ◌^◌, length};
 ghost use Rattle.eco_bench.specs.Region.{ChangesOnly};
-ghost use Rattle.eco_match.specs.Rows.{AreParts, AreRows, work_len, parts_cost, rows_cost, short_gate, out_short, TellsGate, IsAnswer, IsExact};
-ghost use Rattle.eco_match.specs.Phase.{AreBounded, spare_at, pair_at};
+ghost use Rattle.eco_match.specs.Rows.{AreParts, AreRows, work_len, parts_cost, rows_cost, short_gate, out_short, IsAnswer, IsExact};
+ghost use Rattle.eco_match.specs.Work.{HasPlace};
 
 use crate::answer::{MatchOut, Matching};
 use crate::pairs::{Rows, table_of};
-use crate::search::{Gates, Table, Tree};
-use crate::solve::{Solved, solve};
+use crate::solve::solve;
+use crate::work::rank_of;
 use eco_bench::Bench;
 
 /// A least mapping with worths and prices, or a short set.
@@ -39,38 +39,21 @@ fn match_parts(
     ensures exact { IsExact rows.now.gates (parts_cost rows.now head.now columns.now) out.new result }
 {
     let table = table_of(rows, head, columns);
-    let (owner, _) = work.split_at_mut(rows.spares);
-    match solve(&table, owner, rows.gates) {
-        Solved::All(gates) => {
-            tell_matched(&table, &gates, rows.gates, out);
-            Matching::Matched
-        }
-        Solved::Stuck(tree) => {
-            tell_short(&tree, rows.gates, out);
-            Matching::Short
-        }
+    let (owner, tree) = work.split_at_mut(rows.spares);
+    if solve(&table, owner, tree, out, rows.gates) {
+        return Matching::Matched;
     }
+    tell_short(tree, rows.gates, out);
+    Matching::Short
 }
 
-fn tell_matched(table: &Table<'_>, gates: &Gates, count: usize, out: &mut MatchOut)
+/// Tells the gates that the tree reached.
+fn tell_short(tree: &[u64], count: usize, out: &mut MatchOut)
     requires count { count < 129 }
-    requires bounded { AreBounded count gates.now }
-    requires pairs { (k : ℕ) → k < count → pair_at gates.now (k + 1) < length table.now.spares.now }
-    requires small { (j : ℕ) → j < length table.now.spares.now → spare_at table.now j < 2 ^ 32 }
-    ensures { (k : ℕ) → k < count → TellsGate table.now gates.now out.new k }
-{
-    for gate in 0..count {
-        out.spare[gate] = table.spares[gates.pair[gate + 1]] as u32;
-        out.worth[gate] = gates.worth[gate + 1] as i128;
-        out.price[gate] = gates.price[gate + 1] as i128;
-    }
-}
-
-fn tell_short(tree: &Tree, count: usize, out: &mut MatchOut)
-    requires { count < 129 }
+    requires places { HasPlace tree.now count }
     ensures { (k : ℕ) → k < count → out_short out.new k ≡ short_gate tree.now k }
 {
     for gate in 0..count {
-        out.short[gate] = tree.rank[gate + 1] > 0;
+        out.short[gate] = rank_of(tree, gate + 1) > 0;
     }
 }

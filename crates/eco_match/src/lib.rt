@@ -13,6 +13,7 @@ mod least;
 mod pairs;
 mod search;
 mod solve;
+mod work;
 
 pub use answer::{MatchOut, Matching};
 pub use checks::{check_prices, check_short};

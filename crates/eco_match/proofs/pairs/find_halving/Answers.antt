@@ -1,8 +1,7 @@
 use Rattle.std.proofs.Common.{◌+◌, ◌-◌, ◌/◌, ◌≤◌, ◌<◌, sym, arith, inl, inr}
-use Rattle.eco_match.proofs.Advance.{split}
-use Rattle.eco_match.proofs.Reach.{below, same, above, compare'}
 use Rattle.eco_match.proofs.Find.{find-only, find-none}
 use Rattle.eco_match.proofs.pairs.find_halving.Goals as goal
+use Rattle.eco_match.proofs.Order.{split, below, same, above, compare'}
 
 pub returns-then-spares-middle : goal.returns-then-spares-middle
 returns-then-spares-middle c =
