@@ -1,12 +1,10 @@
 use Rattle.std.proofs.Common.{ℕ, ◌<◌, ◌≡◌, List, Option, Some, None, IsSome, IfSome, refl, sym, ap, ◌∙◌, arith, subst, ℤ, pos, ◌-ℤ◌, ◌≤ℤ◌}
-use Rattle.eco_match.specs.declared.search.Table.{Table}
-use Rattle.eco_match.specs.declared.pairs.Rows.{Rows}
+use Rattle.eco_match.specs.declared.table.Table.{Table}
 use Rattle.eco_match.specs.declared.answer.MatchOut.{MatchOut}
 use Rattle.eco_match.specs.Least.{Certifies, signed_price_of}
 use Rattle.eco_match.specs.Phase.{spare_at, cost_at}
-use Rattle.eco_match.specs.Rows.{table_cost, parts_cost, out_spare, out_worth, out_price, IsChosen, KeepsRule, AreChosen, AllDiffer, AllKeep}
+use Rattle.eco_match.specs.Rows.{table_cost, AreRising, out_spare, out_worth, out_price, IsChosen, KeepsRule, AreChosen, AllDiffer, AllKeep}
 use Rattle.eco_match.proofs.Find.{table-some, table-pair, Pair}
-use Rattle.eco_match.proofs.Parts.{FromParts, table-rising, table-costs}
 use Rattle.eco_match.proofs.Order.{below, same, above, compare'}
 
 some-from : (o : Option ℕ) (w p : ℤ) → IsChosen o w p → IsSome o
@@ -33,22 +31,21 @@ within-from t out gates g s keep less (Some c) is =
     subst (λ (x : ℕ). (out_worth out g -ℤ signed_price_of (out_spare out) (out_price out) gates x) ≤ℤ pos c) p.spare_is
     (subst (λ (y : ℕ). (out_worth out g -ℤ signed_price_of (out_spare out) (out_price out) gates (spare_at t p.place)) ≤ℤ pos y) p.cost_is k)
 
-pub certifies-from : (r : Rows) (head columns : List ℕ) (t : Table) (out : MatchOut) → FromParts r head columns t → AreChosen r.gates (parts_cost r head columns) out → AllDiffer out r.gates → AllKeep t out r.gates → Certifies r.gates (parts_cost r head columns) (out_spare out) (out_worth out) (out_price out)
-certifies-from r head columns t out f chosen differ keep =
-    let costs = parts_cost r head columns in
-    record {
-      mapping = record {
-        candidate = λ g less. some-from (costs g (out_spare out g)) (out_worth out g) (out_price out g) (chosen g less);
-        one_to_one = λ g h less more e. elim (compare' g h) [
-          | below b ↦ absurd (differ h more g b e)
-          | same q ↦ q
-          | above b ↦ absurd (differ g less h b (sym e))
-        ];
-      };
-      prices = λ g less. price-from (costs g (out_spare out g)) (out_worth out g) (out_price out g) (chosen g less);
-      within = λ g s less. within-from t out r.gates g s keep less (costs g s) (ap (λ (k : ℕ → ℕ → Option ℕ). k g s) (table-costs r head columns t f));
-      chosen = λ g less. equal-from (costs g (out_spare out g)) (out_worth out g) (out_price out g) (chosen g less);
-    }
+pub certifies-from : (gates : ℕ) (t : Table) (out : MatchOut) → AreChosen gates (table_cost t) out → AllDiffer out gates → AllKeep t out gates →
+    Certifies gates (table_cost t) (out_spare out) (out_worth out) (out_price out)
+certifies-from gates t out chosen differ keep = record {
+  mapping = record {
+    candidate = λ g less. some-from (table_cost t g (out_spare out g)) (out_worth out g) (out_price out g) (chosen g less);
+    one_to_one = λ g h less more e. elim (compare' g h) [
+      | below b ↦ absurd (differ h more g b e)
+      | same q ↦ q
+      | above b ↦ absurd (differ g less h b (sym e))
+    ];
+  };
+  prices = λ g less. price-from (table_cost t g (out_spare out g)) (out_worth out g) (out_price out g) (chosen g less);
+  within = λ g s less. within-from t out gates g s keep less (table_cost t g s) refl;
+  chosen = λ g less. equal-from (table_cost t g (out_spare out g)) (out_worth out g) (out_price out g) (chosen g less);
+}
 
 pub chosen-from : (gates : ℕ) (costs : ℕ → ℕ → Option ℕ) (out : MatchOut) → Certifies gates costs (out_spare out) (out_worth out) (out_price out) → AreChosen gates costs out
 chosen-from gates costs out cert = λ g less. chosen-to (costs g (out_spare out g)) (out_worth out g) (out_price out g) (cert.mapping.candidate g less) (cert.prices g less) (cert.chosen g less)
@@ -56,7 +53,6 @@ chosen-from gates costs out cert = λ g less. chosen-to (costs g (out_spare out 
 pub differ-from : (gates : ℕ) (costs : ℕ → ℕ → Option ℕ) (out : MatchOut) → Certifies gates costs (out_spare out) (out_worth out) (out_price out) → AllDiffer out gates
 differ-from gates costs out cert = λ g less h earlier e. (let q : h ≡ g = cert.mapping.one_to_one h g (omega arith) less e in omega arith)
 
-pub keep-from : (r : Rows) (head columns : List ℕ) (t : Table) (out : MatchOut) → FromParts r head columns t → Certifies r.gates (parts_cost r head columns) (out_spare out) (out_worth out) (out_price out) → AllKeep t out r.gates
-keep-from r head columns t out f cert = λ g less j row.
-    (let e : parts_cost r head columns g (spare_at t j) ≡ Some (cost_at t j) = ap (λ (k : ℕ → ℕ → Option ℕ). k g (spare_at t j)) (sym (table-costs r head columns t f)) ∙ table-pair t g j (table-rising r head columns t f) row in
-    subst (λ (o : Option ℕ). IfSome o (λ c. (out_worth out g -ℤ signed_price_of (out_spare out) (out_price out) r.gates (spare_at t j)) ≤ℤ pos c)) e (cert.within g (spare_at t j) less))
+pub keep-from : (gates : ℕ) (t : Table) (out : MatchOut) → AreRising t → Certifies gates (table_cost t) (out_spare out) (out_worth out) (out_price out) → AllKeep t out gates
+keep-from gates t out rising cert = λ g less j row.
+    subst (λ (o : Option ℕ). IfSome o (λ c. (out_worth out g -ℤ signed_price_of (out_spare out) (out_price out) gates (spare_at t j)) ≤ℤ pos c)) (table-pair t g j rising row) (cert.within g (spare_at t j) less)

@@ -1,12 +1,12 @@
 use Rattle.std.proofs.Common.{ℕ, zero, suc, ◌+◌, ◌<◌, ◌≡◌, List, length, Option, Some, None, IsSome, Bool, refl, sym, ap, ◌∙◌, arith, subst, length-drop, ◌-◌, pos, slice_index, slice_index_or}
-use Rattle.eco_match.specs.declared.search.Table.{Table}
+use Rattle.eco_match.specs.declared.table.Table.{Table}
 use Rattle.eco_match.specs.declared.pairs.Rows.{Rows}
 use Rattle.eco_match.specs.declared.answer.MatchOut.{MatchOut}
 use Rattle.eco_match.specs.Least.{Certifies, IsShort, one_if, is_wanted, IsLeast, HasNone, AreBelow}
 use Rattle.eco_match.specs.Phase.{IsTable, Matched, AreBounded}
 use Rattle.eco_match.specs.Work.{natural, worth_at, price_at}
 use Rattle.eco_match.specs.Solve.{IsStuck}
-use Rattle.eco_match.specs.Rows.{AreParts, AreRising, RowsRise, starts_of, ends_of, spares_of, costs_of, row_cost, table_cost, parts_cost, chosen_spare, chosen_worth, chosen_price, short_gate, out_spare, out_worth, out_price, out_short}
+use Rattle.eco_match.specs.Rows.{AreParts, IsTableOf, AreRising, RowsRise, starts_of, ends_of, spares_of, costs_of, row_cost, table_cost, parts_cost, chosen_spare, chosen_worth, chosen_price, short_gate, out_spare, out_worth, out_price, out_short}
 use Rattle.eco_match.proofs.Result.{Ended, shows-ended, short-blocked}
 use Rattle.eco_match.proofs.Place.{pair-spare}
 use Rattle.eco_match.proofs.Numbers.{natural-pos, worth_at-gate, price_at-gate}
@@ -46,9 +46,11 @@ table-costs r head columns t f =
     ∙ ap (λ (xs : List ℕ). row_cost (starts_of r head) (ends_of r head) xs t.costs.now) f.spares
     ∙ ap (λ (xs : List ℕ). row_cost (starts_of r head) (ends_of r head) (spares_of r columns) xs) f.costs
 
-ended : (r : Rows) (head columns : List ℕ) (t : Table) (owner : List ℕ) (out : MatchOut) → FromParts r head columns t → length owner ≡ r.spares → Matched r.gates r.gates t owner out → Ended r.gates t owner out
-ended r head columns t owner out f size matched =
-    record { table = rw size (table-good r head columns t f); inside = table-inside r head columns t f; rising = table-rising r head columns t f; matched = matched }
+pub is-table : (r : Rows) (head columns : List ℕ) (t : Table) → FromParts r head columns t → IsTableOf r t
+is-table r head columns t f = record { few = f.parts.gates; inside = table-inside r head columns t f; good = table-good r head columns t f; rising = table-rising r head columns t f }
+
+ended : (r : Rows) (t : Table) (owner : List ℕ) (out : MatchOut) → IsTableOf r t → length owner ≡ r.spares → Matched r.gates r.gates t owner out → Ended r.gates t owner out
+ended r t owner out f size matched = record { table = rw size f.good; inside = f.inside; rising = f.rising; matched = matched }
 
 -- the numbers of the search are those of the answer
 spare-told : (count : ℕ) (t : Table) (owner : List ℕ) (out : MatchOut) → Ended count t owner out → (k : ℕ) → k < count → out_spare out k ≡ chosen_spare t out k
@@ -72,14 +74,13 @@ price-told count out few bounded k less =
     let b = bounded.price (k + 1) (omega (arith, few, less)) in
     natural-pos (out_price out k) (omega (arith, is, b, few)) ∙ ap pos (sym is)
 
-pub answer-all : (r : Rows) (head columns : List ℕ) (t : Table) (owner : List ℕ) (out : MatchOut) → FromParts r head columns t → length owner ≡ r.spares → Matched r.gates r.gates t owner out → AreBounded r.gates out →
-    Certifies r.gates (parts_cost r head columns) (out_spare out) (out_worth out) (out_price out)
-answer-all r head columns t owner out f size matched bounded =
-    let w = ended r head columns t owner out f size matched in
-    subst (λ (costs : ℕ → ℕ → Option ℕ). Certifies r.gates costs (out_spare out) (out_worth out) (out_price out)) (table-costs r head columns t f)
-    (shows-certifies r.gates (table_cost t) (chosen_spare t out) (out_spare out) (chosen_worth out) (chosen_price out) (out_worth out) (out_price out)
+pub answer-all : (r : Rows) (t : Table) (owner : List ℕ) (out : MatchOut) → IsTableOf r t → length owner ≡ r.spares → Matched r.gates r.gates t owner out → AreBounded r.gates out →
+    Certifies r.gates (table_cost t) (out_spare out) (out_worth out) (out_price out)
+answer-all r t owner out f size matched bounded =
+    let w = ended r t owner out f size matched in
+    shows-certifies r.gates (table_cost t) (chosen_spare t out) (out_spare out) (chosen_worth out) (chosen_price out) (out_worth out) (out_price out)
     (shows-ended r.gates t owner out w)
-    (spare-told r.gates t owner out w) (worth-told r.gates out f.parts.gates bounded) (price-told r.gates out f.parts.gates bounded))
+    (spare-told r.gates t owner out w) (worth-told r.gates out f.few bounded) (price-told r.gates out f.few bounded)
 
 wanted-same : (costs : ℕ → ℕ → Option ℕ) (a b : ℕ → Bool) (n s : ℕ) → ((k : ℕ) → k < n → a k ≡ b k) → is_wanted costs a n s ≡ is_wanted costs b n s
 wanted-same costs a b zero s same = refl
@@ -94,28 +95,23 @@ short-same gates spares costs a b same short =
     let right = sum-same (λ k. one_if (a k)) (λ k. one_if (b k)) gates (λ k less. ap one_if (same k less)) in
     omega (arith, left, right, short)
 
-pub answer-short : (r : Rows) (head columns : List ℕ) (t : Table) (owner : List ℕ) (root reached : ℕ) (g : MatchOut) (tree : List ℕ) (out : MatchOut) → FromParts r head columns t → length owner ≡ r.spares → IsStuck root reached r.gates t owner g tree → ((k : ℕ) → k < r.gates → out_short out k ≡ short_gate tree k) → IsShort r.gates r.spares (parts_cost r head columns) (out_short out)
-answer-short r head columns t owner root reached g tree out f size stuck tells =
-    subst (λ (costs : ℕ → ℕ → Option ℕ). IsShort r.gates r.spares costs (out_short out)) (table-costs r head columns t f)
-    (short-same r.gates r.spares (table_cost t) (out_short out) (short_gate tree) tells
+pub answer-short : (r : Rows) (t : Table) (owner : List ℕ) (root reached : ℕ) (g : MatchOut) (tree : List ℕ) (out : MatchOut) → IsTableOf r t → length owner ≡ r.spares → IsStuck root reached r.gates t owner g tree → ((k : ℕ) → k < r.gates → out_short out k ≡ short_gate tree k) →
+    IsShort r.gates r.spares (table_cost t) (out_short out)
+answer-short r t owner root reached g tree out f size stuck tells =
+    short-same r.gates r.spares (table_cost t) (out_short out) (short_gate tree) tells
     (subst (λ (n : ℕ). IsShort r.gates n (table_cost t) (short_gate tree)) size
-    (short-blocked root reached r.gates t owner g tree (record { table = rw size (table-good r head columns t f); inside = table-inside r head columns t f; few = f.parts.gates; stuck = stuck }))))
+    (short-blocked root reached r.gates t owner g tree (record { table = rw size f.good; inside = f.inside; few = f.few; stuck = stuck })))
 
-below-at : (r : Rows) (head columns : List ℕ) (t : Table) → FromParts r head columns t → (g s : ℕ) → g < r.gates → (o : Option ℕ) → table_cost t g s ≡ o → IsSome o → s < r.spares
-below-at r head columns t f g s less None is some = absurd (cc)
-below-at r head columns t f g s less (Some c) is some =
+below-at : (r : Rows) (t : Table) → IsTableOf r t → (g s : ℕ) → g < r.gates → (o : Option ℕ) → table_cost t g s ≡ o → IsSome o → s < r.spares
+below-at r t f g s less None is some = absurd (cc)
+below-at r t f g s less (Some c) is some =
     let p : Pair t g s c = table-some t g s c is in
-    let good : IsTable r.spares t = table-good r head columns t f in
-    let end = good.rows (g + 1) (let e = table-inside r head columns t f in omega (arith, less, e)) in
-    let inner = good.below p.place (omega (arith, end, p.row.1)) in
+    let end = f.good.rows (g + 1) (omega (arith, less, f.inside)) in
+    let inner = f.good.below p.place (omega (arith, end, p.row.1)) in
     omega (arith, inner, p.spare_is)
 
-parts-below : (r : Rows) (head columns : List ℕ) (t : Table) → FromParts r head columns t → AreBelow r.gates r.spares (parts_cost r head columns)
-parts-below r head columns t f = λ g s less some.
-    below-at r head columns t f g s less (parts_cost r head columns g s) (ap (λ (k : ℕ → ℕ → Option ℕ). k g s) (table-costs r head columns t f)) some
-
-pub none-short : (r : Rows) (head columns : List ℕ) (t : Table) (out : MatchOut) → FromParts r head columns t → IsShort r.gates r.spares (parts_cost r head columns) (out_short out) → HasNone r.gates (parts_cost r head columns)
-none-short r head columns t out f short = short-none r.gates r.spares (parts_cost r head columns) (out_short out) (parts-below r head columns t f) short
+pub none-short : (r : Rows) (t : Table) (out : MatchOut) → IsTableOf r t → IsShort r.gates r.spares (table_cost t) (out_short out) → HasNone r.gates (table_cost t)
+none-short r t out f short = short-none r.gates r.spares (table_cost t) (out_short out) (λ g s less some. below-at r t f g s less (table_cost t g s) refl some) short
 
 pub least-all : (gates : ℕ) (costs : ℕ → ℕ → Option ℕ) (out : MatchOut) → Certifies gates costs (out_spare out) (out_worth out) (out_price out) → IsLeast gates costs (out_spare out)
 least-all gates costs out cert = certifies-least gates costs (out_spare out) (out_worth out) (out_price out) cert

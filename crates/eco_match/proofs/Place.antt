@@ -1,6 +1,6 @@
 use Rattle.std.proofs.Common.{ℕ, zero, suc, ◌+◌, ◌-◌, ◌≤◌, ◌<◌, ◌≡◌, ◌≢◌, eqb, List, length, slice_index, Bool, true, false, refl, sym, ap, ◌∙◌, arith}
 use Rattle.std.proofs.lemmas.Bool.Decides.{nat_tests}
-use Rattle.eco_match.specs.declared.search.Table.{Table}
+use Rattle.eco_match.specs.declared.table.Table.{Table}
 use Rattle.eco_match.specs.declared.answer.MatchOut.{MatchOut}
 use Rattle.eco_match.specs.Work.{find_place, place_in, pair_at}
 use Rattle.eco_match.specs.Phase.{InRow, spare_at}

@@ -3,7 +3,7 @@ use Rattle.eco_match.specs.Least.{Certifies, IsShort, IsLeast, HasNone, signed_p
 use Rattle.eco_match.specs.declared.answer.MatchOut.{MatchOut}
 use Rattle.eco_match.specs.declared.answer.Matching.{Matching}
 use Rattle.eco_match.specs.declared.answer.Matching.TheVariants.{Matched, Short}
-use Rattle.eco_match.specs.declared.search.Table.{Table}
+use Rattle.eco_match.specs.declared.table.Table.{Table}
 use Rattle.eco_match.specs.declared.pairs.Rows.{Rows}
 use Rattle.eco_bench.specs.Region.{Area, Stands, words_of}
 use Rattle.eco_match.specs.Phase.{AreColumns, InRow, spare_at, cost_at}
@@ -110,6 +110,13 @@ out_short out g = slice_index_or out.short g false
 abbrev pub IsAnswer : ℕ → ℕ → (ℕ → ℕ → Option ℕ) → MatchOut → Matching → Type 0
 IsAnswer gates spares costs out Matched = Certifies gates costs (out_spare out) (out_worth out) (out_price out)
 IsAnswer gates spares costs out Short = IsShort gates spares costs (out_short out)
+
+-- the table of the rows
+pub record IsTableOf (r : Rows) (t : Table) : Type 0 where
+  pub few : r.gates < 129
+  pub inside : r.gates < length t.ends.now
+  pub good : AreColumns r.spares t.starts.now t.ends.now t.spares.now t.costs.now
+  pub rising : AreRising t
 
 -- the worth and the price of a chosen pair, whose cost is o
 abbrev pub IsChosen : Option ℕ → ℤ → ℤ → Type 0

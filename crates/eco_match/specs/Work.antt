@@ -1,6 +1,6 @@
 use Rattle.std.specs.Prelude.{ℕ, zero, suc, ◌+◌, ◌-◌, ◌*◌, ◌^◌, ◌≤◌, ◌≡◌, ◌≢◌, ◌==◌, if◌then◌else◌, List, length, slice_index, slice_index_or, ℤ, pos, negsuc}
 use Rattle.eco_match.specs.declared.answer.MatchOut.{MatchOut}
-use Rattle.eco_match.specs.declared.search.Table.{Table}
+use Rattle.eco_match.specs.declared.table.Table.{Table}
 
 -- the words of the tree have the five of this place
 abbrev pub HasPlace : List ℕ → ℕ → Type 0

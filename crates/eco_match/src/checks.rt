@@ -1,40 +1,39 @@
 // Tests of an answer against the rows.
 ghost use Rattle.std.specs.Prelude.{◌≡◌, ℕ, ◌+◌, ◌*◌, ◌≤◌, ◌<◌, ◌^◌, ◌-◌, ◌↔◌, IsTrue, ◌&&◌, is_some, pos, ◌≤ℤ◌, length, slice_index, take, drop};
 ghost use Rattle.eco_match.specs.Least.{sum_below, one_if, is_wanted, IsShort, signed_price_of, Certifies};
-ghost use Rattle.eco_match.specs.Rows.{AreParts, AreRows, parts_cost, rows_cost, out_short, out_spare, out_price, chosen_at, KeepsRule, NoneNegative, AreChosen, DiffersFromEarlier, AllDiffer, AllKeep, out_worth};
+ghost use Rattle.eco_match.specs.Rows.{AreRows, IsTableOf, table_cost, rows_cost, out_short, out_spare, out_price, chosen_at, KeepsRule, NoneNegative, AreChosen, DiffersFromEarlier, AllDiffer, AllKeep, out_worth};
 ghost use Rattle.eco_match.specs.Phase.{InRow};
 
 use crate::answer::MatchOut;
-use crate::pairs::{Rows, pair_of, parts_of, table_of};
-use crate::search::Table;
+use crate::pairs::Rows;
+use crate::table::{Table, pair_of};
 use eco_bench::Bench;
 
 /// Whether a gate is in the set and has the spare as a candidate.
 fn gate_wants(
     rows: &Rows,
-    head: &[u64],
-    columns: &[u64],
+    table: &Table<'_>,
     out: &MatchOut,
     gate: usize,
     spare: u64,
 ) -> bool
-    requires parts { AreParts rows.now head.now columns.now }
+    requires table { IsTableOf rows.now table.now }
     requires gate { gate < rows.now.gates }
-    ensures { result ≡ (out_short out.now gate && is_some (parts_cost rows.now head.now columns.now gate spare)) }
+    ensures { result ≡ (out_short out.now gate && is_some (table_cost table.now gate spare)) }
 {
-    let cost = pair_of(rows, head, columns, gate, spare);
+    let cost = pair_of(rows, table, gate, spare);
     out.short[gate] && cost.is_some()
 }
 
 /// Whether some gate of the set has the spare as a candidate.
-fn wants(rows: &Rows, head: &[u64], columns: &[u64], out: &MatchOut, spare: u64) -> bool
-    requires { AreParts rows.now head.now columns.now }
-    ensures { result ≡ is_wanted (parts_cost rows.now head.now columns.now) (out_short out.now) rows.now.gates spare }
+fn wants(rows: &Rows, table: &Table<'_>, out: &MatchOut, spare: u64) -> bool
+    requires { IsTableOf rows.now table.now }
+    ensures { result ≡ is_wanted (table_cost table.now) (out_short out.now) rows.now.gates spare }
 {
     let mut left = rows.gates;
     'gates: while left > 0 {
         left -= 1;
-        if gate_wants(rows, head, columns, out, left, spare) {
+        if gate_wants(rows, table, out, left, spare) {
             return true;
         }
     }
@@ -42,13 +41,13 @@ fn wants(rows: &Rows, head: &[u64], columns: &[u64], out: &MatchOut, spare: u64)
 }
 
 /// How many spares are candidates of the set.
-fn wanted(rows: &Rows, head: &[u64], columns: &[u64], out: &MatchOut) -> usize
-    requires { AreParts rows.now head.now columns.now }
-    ensures { result ≡ sum_below (λ s. one_if (is_wanted (parts_cost rows.now head.now columns.now) (out_short out.now) rows.now.gates s)) rows.now.spares }
+fn wanted(rows: &Rows, table: &Table<'_>, out: &MatchOut) -> usize
+    requires { IsTableOf rows.now table.now }
+    ensures { result ≡ sum_below (λ s. one_if (is_wanted (table_cost table.now) (out_short out.now) rows.now.gates s)) rows.now.spares }
 {
     let mut count = 0;
     for spare in 0..rows.spares {
-        if wants(rows, head, columns, out, spare as u64) {
+        if wants(rows, table, out, spare as u64) {
             count += 1;
         }
     }
@@ -74,26 +73,25 @@ pub fn check_short(bench: &Bench, rows: &Rows, out: &MatchOut) -> bool
     requires { AreRows bench.now rows.now }
     ensures { IsTrue result ↔ IsShort rows.now.gates rows.now.spares (rows_cost bench.now rows.now) (out_short out.now) }
 {
-    let (head, columns) = parts_of(rows, bench.words(rows.span));
-    is_short(rows, head, columns, out)
+    is_short(rows, &rows.table(bench), out)
 }
 
-fn is_short(rows: &Rows, head: &[u64], columns: &[u64], out: &MatchOut) -> bool
-    requires { AreParts rows.now head.now columns.now }
-    ensures { IsTrue result ↔ IsShort rows.now.gates rows.now.spares (parts_cost rows.now head.now columns.now) (out_short out.now) }
+fn is_short(rows: &Rows, table: &Table<'_>, out: &MatchOut) -> bool
+    requires { IsTableOf rows.now table.now }
+    ensures { IsTrue result ↔ IsShort rows.now.gates rows.now.spares (table_cost table.now) (out_short out.now) }
 {
-    wanted(rows, head, columns, out) < members(rows, out)
+    wanted(rows, table, out) < members(rows, out)
 }
 
 /// Whether the worth of a gate less its price, which isn't below 0, is the cost of its spare.
-fn is_chosen(rows: &Rows, head: &[u64], columns: &[u64], out: &MatchOut, gate: usize) -> bool
-    requires parts { AreParts rows.now head.now columns.now }
+fn is_chosen(rows: &Rows, table: &Table<'_>, out: &MatchOut, gate: usize) -> bool
+    requires table { IsTableOf rows.now table.now }
     requires gate { gate < rows.now.gates }
-    ensures { IsTrue result ↔ chosen_at (parts_cost rows.now head.now columns.now) out.now gate }
+    ensures { IsTrue result ↔ chosen_at (table_cost table.now) out.now gate }
 {
     let worth = out.worth[gate];
     let price = out.price[gate];
-    match pair_of(rows, head, columns, gate, u64::from(out.spare[gate])) {
+    match pair_of(rows, table, gate, u64::from(out.spare[gate])) {
         None => false,
         Some(cost) => price >= 0 && worth >= price && worth - price == i128::from(cost),
     }
@@ -148,12 +146,12 @@ fn row_keeps(table: &Table<'_>, out: &MatchOut, count: usize, gate: usize) -> bo
     true
 }
 
-fn all_chosen(rows: &Rows, head: &[u64], columns: &[u64], out: &MatchOut) -> bool
-    requires parts { AreParts rows.now head.now columns.now }
-    ensures { IsTrue result ↔ AreChosen rows.now.gates (parts_cost rows.now head.now columns.now) out.now }
+fn all_chosen(rows: &Rows, table: &Table<'_>, out: &MatchOut) -> bool
+    requires table { IsTableOf rows.now table.now }
+    ensures { IsTrue result ↔ AreChosen rows.now.gates (table_cost table.now) out.now }
 {
     for gate in 0..rows.gates {
-        if !is_chosen(rows, head, columns, out, gate) {
+        if !is_chosen(rows, table, out, gate) {
             return false;
         }
     }
@@ -201,18 +199,17 @@ fn all_keep(table: &Table<'_>, out: &MatchOut, count: usize) -> bool
     true
 }
 
-fn check_parts(rows: &Rows, head: &[u64], columns: &[u64], out: &MatchOut) -> bool
-    requires parts { AreParts rows.now head.now columns.now }
-    ensures { IsTrue result ↔ Certifies rows.now.gates (parts_cost rows.now head.now columns.now) (out_spare out.now) (out_worth out.now) (out_price out.now) }
+fn is_certificate(rows: &Rows, table: &Table<'_>, out: &MatchOut) -> bool
+    requires table { IsTableOf rows.now table.now }
+    ensures { IsTrue result ↔ Certifies rows.now.gates (table_cost table.now) (out_spare out.now) (out_worth out.now) (out_price out.now) }
 {
-    if !all_chosen(rows, head, columns, out) {
+    if !all_chosen(rows, table, out) {
         return false;
     }
     if !all_differ(out, rows.gates) {
         return false;
     }
-    let table = table_of(rows, head, columns);
-    all_keep(&table, out, rows.gates)
+    all_keep(table, out, rows.gates)
 }
 
 /// Whether the answer is a mapping with worths and prices that show it least.
@@ -220,6 +217,5 @@ pub fn check_prices(bench: &Bench, rows: &Rows, out: &MatchOut) -> bool
     requires { AreRows bench.now rows.now }
     ensures { IsTrue result ↔ Certifies rows.now.gates (rows_cost bench.now rows.now) (out_spare out.now) (out_worth out.now) (out_price out.now) }
 {
-    let (head, columns) = parts_of(rows, bench.words(rows.span));
-    check_parts(rows, head, columns, out)
+    is_certificate(rows, &rows.table(bench), out)
 }

@@ -13,6 +13,7 @@ mod least;
 mod pairs;
 mod search;
 mod solve;
+mod table;
 mod work;
 
 pub use answer::{MatchOut, Matching};

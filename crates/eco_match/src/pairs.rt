@@ -2,9 +2,9 @@
 ghost use Rattle.std.specs.Prelude.{◌≡◌, ℕ, ◌+◌, ◌*◌, ◌≤◌, ◌<◌, length, slice_index, take, drop, ◌^◌, ◌-◌, None};
 ghost use Rattle.eco_bench.specs.declared.Span.{Span};
 ghost use Rattle.eco_bench.specs.Region.{Stands, ChangesOnly, room_of, words_of};
-ghost use Rattle.eco_match.specs.Rows.{AreParts, AreRows, head_of, columns_of, starts_of, ends_of, spares_of, costs_of, parts_cost, rows_cost, find_cost, need, work_len, PairWritten, ComesNext, with_pair, wider};
+ghost use Rattle.eco_match.specs.Rows.{AreParts, AreRows, IsTableOf, starts_of, ends_of, table_cost, parts_cost, rows_cost, find_cost, need, work_len, PairWritten, ComesNext, with_pair, wider};
 
-use crate::search::Table;
+use crate::table::{Table, pair_of};
 use eco_bench::{Bench, Span};
 
 /// Where the rows of a problem stand, and how many pairs they have so far.
@@ -82,37 +82,37 @@ impl Rows {
         requires gate { gate < self.now.gates }
         ensures { result ≡ rows_cost bench.now self.now gate spare }
     {
-        let (head, columns) = parts_of(self, bench.words(self.span));
-        pair_of(self, head, columns, gate as usize, u64::from(spare))
+        pair_of(self, &self.table(bench), gate as usize, spare as u64)
+    }
+
+    /// The table of the pairs.
+    pub fn table<'a>(&self, bench: &'a Bench) -> Table<'a>
+        requires rows { AreRows bench.now self.now }
+        ensures table { IsTableOf self.now result }
+        ensures costs { table_cost result ≡ rows_cost bench.now self.now }
+    {
+        let words = bench.words(self.span);
+        let (head, rest) = words.split_at(2 * (self.gates + 1));
+        let (_, columns) = rest.split_at(self.work_words());
+        table_of(self, head, columns)
     }
 }
 
-/// The parts of the words of the rows that hold the pairs.
-pub fn parts_of<'a>(rows: &Rows, words: &'a [u64]) -> (&'a [u64], &'a [u64])
-    requires few { (rows.now.gates < 129) × (rows.now.spares < 2 ^ 32) }
-    requires size { 2 * (rows.now.gates + 1) + work_len rows.now ≤ length words.now }
-    ensures head { result.0.now ≡ head_of rows.now words.now }
-    ensures columns { result.1.now ≡ columns_of rows.now words.now }
-{
-    let (head, rest) = words.split_at(2 * (rows.gates + 1));
-    let (_, columns) = rest.split_at(rows.work_words());
-    (head, columns)
-}
-
+/// The table of the pairs, out of the parts of the words that hold them.
 pub fn table_of<'a>(rows: &Rows, head: &'a [u64], columns: &'a [u64]) -> Table<'a>
     requires { AreParts rows.now head.now columns.now }
-    ensures starts { result.starts.now ≡ starts_of rows.now head.now }
-    ensures ends { result.ends.now ≡ ends_of rows.now head.now }
-    ensures spares { result.spares.now ≡ spares_of rows.now columns.now }
-    ensures costs { result.costs.now ≡ costs_of rows.now columns.now }
+    ensures table { IsTableOf rows.now result }
+    ensures costs { table_cost result ≡ parts_cost rows.now head.now columns.now }
 {
     let (starts, ends) = head.split_at(rows.gates + 1);
-    let (spares, costs) = columns.split_at(rows.pairs);
+    let (spares, _) = columns.split_at(rows.filled);
+    let (_, costs) = columns.split_at(rows.pairs);
+    let (costs, _) = costs.split_at(rows.filled);
     Table {
         starts,
         ends,
-        spares: &spares[..rows.filled],
-        costs: &costs[..rows.filled],
+        spares,
+        costs,
     }
 }
 
@@ -146,38 +146,4 @@ fn write_pair(
     ends[gate + 1] = rows.filled as u64 + 1;
     spares[rows.filled] = spare;
     costs[rows.filled] = cost;
-}
-
-/// The same by halving, in a row whose spares rise.
-fn find_halving(spares: &[u64], costs: &[u64], start: usize, end: usize, spare: u64) -> Option<u64>
-    requires end { end ≤ length spares.now }
-    requires costs { length costs.now ≡ length spares.now }
-    requires rising { (i j : ℕ) → start ≤ i → i < j → j < end → slice_index spares.now i < slice_index spares.now j }
-    ensures { result ≡ find_cost spares.now costs.now spare start (end - start) }
-{
-    let mut low = start;
-    let mut high = end;
-    'halves: while low < high {
-        let middle = low + (high - low) / 2;
-        if spares[middle] == spare {
-            return Some(costs[middle]);
-        }
-        if spares[middle] < spare {
-            low = middle + 1;
-        } else {
-            high = middle;
-        }
-    }
-    None
-}
-
-pub fn pair_of(rows: &Rows, head: &[u64], columns: &[u64], gate: usize, spare: u64) -> Option<u64>
-    requires parts { AreParts rows.now head.now columns.now }
-    requires gate { gate < rows.now.gates }
-    ensures { result ≡ parts_cost rows.now head.now columns.now gate spare }
-{
-    let table = table_of(rows, head, columns);
-    let start = table.starts[gate + 1] as usize;
-    let end = table.ends[gate + 1] as usize;
-    find_halving(table.spares, table.costs, start, end, spare)
 }

@@ -1,6 +1,6 @@
 use Rattle.std.proofs.Common.{◌+◌, ◌-◌, ◌/◌, ◌≤◌, ◌<◌, sym, arith, inl, inr}
 use Rattle.eco_match.proofs.Find.{find-only, find-none}
-use Rattle.eco_match.proofs.pairs.find_halving.Goals as goal
+use Rattle.eco_match.proofs.table.find_halving.Goals as goal
 use Rattle.eco_match.proofs.Order.{split, below, same, above, compare'}
 
 pub returns-then-spares-middle : goal.returns-then-spares-middle

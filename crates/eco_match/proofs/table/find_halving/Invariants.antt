@@ -1,5 +1,5 @@
 use Rattle.std.proofs.Common.{ℕ, ◌<◌, ◌≤◌, ◌-◌, slice_index}
-use Rattle.eco_match.proofs.pairs.find_halving.Given as goal
+use Rattle.eco_match.proofs.table.find_halving.Given as goal
 
 abbrev pub invariant-halves : goal.invariant-halves
 invariant-halves l = record {
