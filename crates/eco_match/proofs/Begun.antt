@@ -3,7 +3,8 @@ use Rattle.std.proofs.lemmas.List.{length-take-le, get_or-take, get_or-drop, get
 use Rattle.eco_bench.specs.Region.{Area, with_part, with_words, Stands, ChangesOnly}
 use Rattle.eco_bench.proofs.Writing.{length-with_part, words_of-written, written-only}
 use Rattle.eco_match.specs.declared.pairs.Rows.{Rows}
-use Rattle.eco_match.specs.Rows.{AreRows, AreParts, rows_words, work_len, head_of, columns_of, starts_of, ends_of, spares_of, costs_of, rows_cost, parts_cost, find_cost}
+use Rattle.eco_match.specs.Rows.{AreRows, AreParts, rows_words, work_len, head_of, columns_of, starts_of, ends_of, spares_of, costs_of, rows_cost, parts_cost}
+use Rattle.eco_match.specs.Table.{find_cost}
 use Rattle.eco_match.proofs.Order.{split}
 
 pub record Over (area : Area) (r : Rows) (part : List ℕ) : Type 0 where

@@ -1,9 +1,10 @@
-use Rattle.std.proofs.Common.{ℕ, ◌<◌, ◌≡◌, List, Option, Some, None, IsSome, IfSome, refl, sym, ap, ◌∙◌, arith, subst, ℤ, pos, ◌-ℤ◌, ◌≤ℤ◌}
+use Rattle.std.proofs.Common.{ℕ, ◌<◌, ◌≡◌, Option, Some, None, IsSome, IfSome, refl, sym, subst, ℤ, pos, ◌-ℤ◌, ◌≤ℤ◌}
 use Rattle.eco_match.specs.declared.table.Table.{Table}
 use Rattle.eco_match.specs.declared.answer.MatchOut.{MatchOut}
+use Rattle.eco_match.specs.Checks.{IsChosen, KeepsRule, AreChosen, AllDiffer, AllKeep}
 use Rattle.eco_match.specs.Least.{Certifies, signed_price_of}
-use Rattle.eco_match.specs.Phase.{spare_at, cost_at}
-use Rattle.eco_match.specs.Rows.{table_cost, AreRising, out_spare, out_worth, out_price, IsChosen, KeepsRule, AreChosen, AllDiffer, AllKeep}
+use Rattle.eco_match.specs.MatchOut.{out_spare, out_worth, out_price}
+use Rattle.eco_match.specs.Table.{spare_at, table_cost, AreRising}
 use Rattle.eco_match.proofs.Find.{table-some, table-pair, Pair}
 use Rattle.eco_match.proofs.Order.{below, same, above, compare'}
 
@@ -46,12 +47,6 @@ certifies-from gates t out chosen differ keep = record {
   within = λ g s less. within-from t out gates g s keep less (table_cost t g s) refl;
   chosen = λ g less. equal-from (table_cost t g (out_spare out g)) (out_worth out g) (out_price out g) (chosen g less);
 }
-
-pub chosen-from : (gates : ℕ) (costs : ℕ → ℕ → Option ℕ) (out : MatchOut) → Certifies gates costs (out_spare out) (out_worth out) (out_price out) → AreChosen gates costs out
-chosen-from gates costs out cert = λ g less. chosen-to (costs g (out_spare out g)) (out_worth out g) (out_price out g) (cert.mapping.candidate g less) (cert.prices g less) (cert.chosen g less)
-
-pub differ-from : (gates : ℕ) (costs : ℕ → ℕ → Option ℕ) (out : MatchOut) → Certifies gates costs (out_spare out) (out_worth out) (out_price out) → AllDiffer out gates
-differ-from gates costs out cert = λ g less h earlier e. (let q : h ≡ g = cert.mapping.one_to_one h g (omega arith) less e in omega arith)
 
 pub keep-from : (gates : ℕ) (t : Table) (out : MatchOut) → AreRising t → Certifies gates (table_cost t) (out_spare out) (out_worth out) (out_price out) → AllKeep t out gates
 keep-from gates t out rising cert = λ g less j row.

@@ -2,9 +2,9 @@ use Rattle.std.proofs.Common.{ℕ, ◌-◌, ◌≤◌, ◌<◌, ◌≡◌, ◌�
 use Rattle.std.proofs.lemmas.List.{get_or-set_same, get_or-set_other}
 use Rattle.eco_match.specs.declared.table.Table.{Table}
 use Rattle.eco_match.specs.declared.answer.MatchOut.{MatchOut}
-use Rattle.eco_match.specs.Phase.{InRow, Handed, spare_at}
+use Rattle.eco_match.specs.Phase.{Handed}
+use Rattle.eco_match.specs.Table.{InRow, spare_at, AreRising}
 use Rattle.eco_match.specs.Work.{SetsPrice}
-use Rattle.eco_match.specs.Rows.{AreRising}
 use Rattle.eco_match.proofs.Numbers.{worths-same, prices-same}
 use Rattle.eco_match.proofs.Place.{pair-here, pair-same}
 

@@ -4,8 +4,8 @@ use Rattle.std.proofs.lemmas.List.{get_or-set_same, get_or-set_other, get_or-rep
 use Rattle.std.proofs.Math.ListN.{replicate}
 use Rattle.eco_match.specs.declared.answer.MatchOut.{MatchOut}
 use Rattle.eco_match.specs.Phase.{AreBounded}
-use Rattle.eco_match.proofs.Order.{split}
 use Rattle.eco_match.specs.Work.{natural, worth_at, price_at, SetsWorth, SetsPrice}
+use Rattle.eco_match.proofs.Order.{split}
 
 -- a number of the search is no number below 0
 pub natural-pos : (z : ℤ) → natural z < 2 ^ 127 → z ≡ pos (natural z)

@@ -1,12 +1,15 @@
 use Rattle.std.proofs.Common.{ℕ, zero, suc, ◌+◌, ◌<◌, ◌≡◌, List, length, Option, Some, None, IsSome, Bool, refl, sym, ap, ◌∙◌, arith, subst, length-drop, ◌-◌, pos, slice_index, slice_index_or}
+use Rattle.eco_match.proofs.Shown.{chosen_spare, chosen_worth, chosen_price}
 use Rattle.eco_match.specs.declared.table.Table.{Table}
 use Rattle.eco_match.specs.declared.pairs.Rows.{Rows}
 use Rattle.eco_match.specs.declared.answer.MatchOut.{MatchOut}
-use Rattle.eco_match.specs.Least.{Certifies, IsShort, one_if, is_wanted, IsLeast, HasNone, AreBelow}
-use Rattle.eco_match.specs.Phase.{IsTable, Matched, AreBounded}
+use Rattle.eco_match.specs.Least.{Certifies, IsShort, one_if, is_wanted, IsLeast, HasNone}
+use Rattle.eco_match.specs.MatchOut.{out_spare, out_worth, out_price, out_short}
+use Rattle.eco_match.specs.Phase.{Matched, AreBounded}
+use Rattle.eco_match.specs.Rows.{AreParts, IsTableOf, starts_of, ends_of, spares_of, costs_of, parts_cost}
+use Rattle.eco_match.specs.Solve.{IsStuck, short_gate}
+use Rattle.eco_match.specs.Table.{IsTable, AreRising, RowsRise, row_cost, table_cost}
 use Rattle.eco_match.specs.Work.{natural, worth_at, price_at}
-use Rattle.eco_match.specs.Solve.{IsStuck}
-use Rattle.eco_match.specs.Rows.{AreParts, IsTableOf, AreRising, RowsRise, starts_of, ends_of, spares_of, costs_of, row_cost, table_cost, parts_cost, chosen_spare, chosen_worth, chosen_price, short_gate, out_spare, out_worth, out_price, out_short}
 use Rattle.eco_match.proofs.Result.{Ended, shows-ended, short-blocked}
 use Rattle.eco_match.proofs.Place.{pair-spare}
 use Rattle.eco_match.proofs.Numbers.{natural-pos, worth_at-gate, price_at-gate}

@@ -2,9 +2,8 @@ use Rattle.std.proofs.Common.{ℕ, zero, suc, ◌+◌, ◌-◌, ◌≤◌, ◌<�
 use Rattle.std.proofs.lemmas.Bool.Decides.{nat_tests}
 use Rattle.eco_match.specs.declared.table.Table.{Table}
 use Rattle.eco_match.specs.declared.answer.MatchOut.{MatchOut}
+use Rattle.eco_match.specs.Table.{InRow, spare_at, AreRising}
 use Rattle.eco_match.specs.Work.{find_place, place_in, pair_at}
-use Rattle.eco_match.specs.Phase.{InRow, spare_at}
-use Rattle.eco_match.specs.Rows.{AreRising}
 use Rattle.eco_match.proofs.Order.{below, same, above, compare'}
 
 place-here : (spares : List ℕ) (s from n j : ℕ) (b : Bool) → eqb (slice_index spares (from + n)) s ≡ b → j < from + suc n → slice_index spares j ≡ s →

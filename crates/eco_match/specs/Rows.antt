@@ -1,47 +1,8 @@
-use Rattle.std.specs.Prelude.{ℕ, zero, suc, ◌+◌, ◌-◌, ◌*◌, ◌^◌, ◌≤◌, ◌<◌, ◌≡◌, ◌==◌, Bool, false, if◌then◌else◌, nat_lt, Option, Some, None, List, length, slice_index, take, drop, slice_index_or, ℤ, pos, ◌-ℤ◌, ◌≤ℤ◌, ◌≢◌, ◌⊎◌, ◌&&◌, slice_set, IsSome}
-use Rattle.eco_match.specs.Least.{Certifies, IsShort, IsLeast, HasNone, signed_price_of}
-use Rattle.eco_match.specs.declared.answer.MatchOut.{MatchOut}
-use Rattle.eco_match.specs.declared.answer.Matching.{Matching}
-use Rattle.eco_match.specs.declared.answer.Matching.TheVariants.{Matched, Short}
+use Rattle.std.specs.Prelude.{ℕ, ◌+◌, ◌*◌, ◌^◌, ◌≤◌, ◌<◌, ◌≡◌, ◌==◌, if◌then◌else◌, Option, Some, List, length, slice_index, take, drop, ◌⊎◌, ◌&&◌, slice_set, IsSome}
+use Rattle.eco_match.specs.Table.{AreColumns, row_cost, RowsRise, AreRising}
 use Rattle.eco_match.specs.declared.table.Table.{Table}
 use Rattle.eco_match.specs.declared.pairs.Rows.{Rows}
 use Rattle.eco_bench.specs.Region.{Area, Stands, words_of}
-use Rattle.eco_match.specs.Phase.{AreColumns, InRow, spare_at, cost_at}
-use Rattle.eco_match.specs.Work.{worth_at, price_at, pair_at, rank_at}
-
--- the cost beside the spare, among n places from one on
-abbrev pub find_cost : List ℕ → List ℕ → ℕ → ℕ → ℕ → Option ℕ
-find_cost spares costs s from zero = None
-find_cost spares costs s from (suc n) =
-    if slice_index spares (from + n) == s then Some (slice_index costs (from + n)) else find_cost spares costs s from n
-
--- the cost of a gate on a spare; the row of gate g is at g + 1
-abbrev pub row_cost : List ℕ → List ℕ → List ℕ → List ℕ → ℕ → ℕ → Option ℕ
-row_cost starts ends spares costs g s =
-    find_cost spares costs s (slice_index starts (g + 1)) (slice_index ends (g + 1) - slice_index starts (g + 1))
-
-abbrev pub table_cost : Table → ℕ → ℕ → Option ℕ
-table_cost t = row_cost t.starts.now t.ends.now t.spares.now t.costs.now
-
--- the spares of a row rise
-abbrev pub RowsRise : List ℕ → List ℕ → List ℕ → Type 0
-RowsRise starts ends spares = (g i j : ℕ) → (slice_index starts g ≤ i) × (i < slice_index ends g) → (slice_index starts g ≤ j) × (j < slice_index ends g) → i < j → slice_index spares i < slice_index spares j
-
-abbrev pub AreRising : Table → Type 0
-AreRising t = RowsRise t.starts.now t.ends.now t.spares.now
-
--- the answer, by the gates of the caller
-abbrev pub chosen_spare : Table → MatchOut → ℕ → ℕ
-chosen_spare t g k = spare_at t (pair_at t g (k + 1))
-
-abbrev pub chosen_worth : MatchOut → ℕ → ℕ
-chosen_worth g k = worth_at g (k + 1)
-
-abbrev pub chosen_price : MatchOut → ℕ → ℕ
-chosen_price g k = price_at g (k + 1)
-
-abbrev pub short_gate : List ℕ → ℕ → Bool
-short_gate tree k = nat_lt 0 (rank_at tree (k + 1))
 
 -- the words of the rows, and the parts that they are cut into: the head, the work and the columns
 abbrev pub rows_words : Area → Rows → List ℕ
@@ -51,9 +12,11 @@ rows_words area r = words_of area r.span
 abbrev pub work_len : Rows → ℕ
 work_len r = r.spares + 5 * (r.gates + 1)
 
+-- where the rows start and end, for each gate
 abbrev pub head_of : Rows → List ℕ → List ℕ
 head_of r words = take (2 * (r.gates + 1)) words
 
+-- the spares and the costs of the pairs, one after another
 abbrev pub columns_of : Rows → List ℕ → List ℕ
 columns_of r words = drop (work_len r) (drop (2 * (r.gates + 1)) words)
 
@@ -69,6 +32,7 @@ spares_of r columns = take r.filled columns
 abbrev pub costs_of : Rows → List ℕ → List ℕ
 costs_of r columns = take r.filled (drop r.pairs columns)
 
+-- the cost of a gate on a spare, by the parts
 abbrev pub parts_cost : Rows → List ℕ → List ℕ → ℕ → ℕ → Option ℕ
 parts_cost r head columns = row_cost (starts_of r head) (ends_of r head) (spares_of r columns) (costs_of r columns)
 
@@ -76,6 +40,8 @@ parts_cost r head columns = row_cost (starts_of r head) (ends_of r head) (spares
 abbrev pub rows_cost : Area → Rows → ℕ → ℕ → Option ℕ
 rows_cost area r = parts_cost r (head_of r (rows_words area r)) (columns_of r (rows_words area r))
 
+-- head and columns of rows: the pairs stand in order, gate by gate, and the row of a gate with no pair
+-- ends at 0
 pub record AreParts (r : Rows) (head columns : List ℕ) : Type 0 where
   pub gates : r.gates < 129
   pub filled : r.filled ≤ r.pairs
@@ -94,23 +60,6 @@ pub record AreRows (area : Area) (r : Rows) : Type 0 where
   pub size : 2 * (r.gates + 1) + work_len r + 2 * r.pairs ≤ r.span.len
   pub parts : AreParts r (head_of r (rows_words area r)) (columns_of r (rows_words area r))
 
-abbrev pub out_spare : MatchOut → ℕ → ℕ
-out_spare out g = slice_index out.spare g
-
-abbrev pub out_worth : MatchOut → ℕ → ℤ
-out_worth out g = slice_index_or out.worth g (pos 0)
-
-abbrev pub out_price : MatchOut → ℕ → ℤ
-out_price out g = slice_index_or out.price g (pos 0)
-
-abbrev pub out_short : MatchOut → ℕ → Bool
-out_short out g = slice_index_or out.short g false
-
--- what the answer shows
-abbrev pub IsAnswer : ℕ → ℕ → (ℕ → ℕ → Option ℕ) → MatchOut → Matching → Type 0
-IsAnswer gates spares costs out Matched = Certifies gates costs (out_spare out) (out_worth out) (out_price out)
-IsAnswer gates spares costs out Short = IsShort gates spares costs (out_short out)
-
 -- the table of the rows
 pub record IsTableOf (r : Rows) (t : Table) : Type 0 where
   pub few : r.gates < 129
@@ -118,44 +67,11 @@ pub record IsTableOf (r : Rows) (t : Table) : Type 0 where
   pub good : AreColumns r.spares t.starts.now t.ends.now t.spares.now t.costs.now
   pub rising : AreRising t
 
--- the worth and the price of a chosen pair, whose cost is o
-abbrev pub IsChosen : Option ℕ → ℤ → ℤ → Type 0
-IsChosen None worth price = ⊥
-IsChosen (Some c) worth price = (pos 0 ≤ℤ price) × ((worth -ℤ price) ≡ pos c)
-
-abbrev pub chosen_at : (ℕ → ℕ → Option ℕ) → MatchOut → ℕ → Type 0
-chosen_at costs out g = IsChosen (costs g (out_spare out g)) (out_worth out g) (out_price out g)
-
--- the pair at j keeps the rule for prices
-abbrev pub KeepsRule : Table → MatchOut → ℕ → ℕ → ℕ → Type 0
-KeepsRule t out gates g j = (out_worth out g -ℤ signed_price_of (out_spare out) (out_price out) gates (spare_at t j)) ≤ℤ pos (cost_at t j)
-
-abbrev pub NoneNegative : MatchOut → ℕ → Type 0
-NoneNegative out gates = (g : ℕ) → g < gates → pos 0 ≤ℤ out_price out g
-
-abbrev pub AreChosen : ℕ → (ℕ → ℕ → Option ℕ) → MatchOut → Type 0
-AreChosen gates costs out = (g : ℕ) → g < gates → chosen_at costs out g
-
-abbrev pub DiffersFromEarlier : MatchOut → ℕ → Type 0
-DiffersFromEarlier out g = (h : ℕ) → h < g → out_spare out h ≢ out_spare out g
-
-abbrev pub AllDiffer : MatchOut → ℕ → Type 0
-AllDiffer out gates = (g : ℕ) → g < gates → DiffersFromEarlier out g
-
-abbrev pub RowKeeps : Table → MatchOut → ℕ → ℕ → Type 0
-RowKeeps t out gates g = (j : ℕ) → InRow t (g + 1) j → KeepsRule t out gates g j
-
-abbrev pub AllKeep : Table → MatchOut → ℕ → Type 0
-AllKeep t out gates = (g : ℕ) → g < gates → RowKeeps t out gates g
-
--- Matched with a least mapping, and Short only where there is none
-abbrev pub IsExact : ℕ → (ℕ → ℕ → Option ℕ) → MatchOut → Matching → Type 0
-IsExact gates costs out Matched = IsLeast gates costs (out_spare out)
-IsExact gates costs out Short = HasNone gates costs
-
+-- how many words rows and search take
 abbrev pub need : ℕ → ℕ → ℕ → ℕ
 need gates spares pairs = 8 * (gates + spares) + 2 * pairs + 64
 
+-- rows with one pair more
 abbrev pub wider : Rows → Rows
 wider r = record { span = r.span; gates = r.gates; spares = r.spares; pairs = r.pairs; filled = r.filled + 1 }
 
@@ -174,5 +90,6 @@ pub record PairWritten (r : Rows) (place spare cost : ℕ) (head columns head' c
 abbrev pub ComesNext : ℕ → (ℕ → ℕ → Option ℕ) → ℕ → ℕ → Type 0
 ComesNext gates costs gate spare = (g s : ℕ) → g < gates → IsSome (costs g s) → (g < gate) ⊎ ((g ≡ gate) × (s < spare))
 
+-- the costs with one pair more
 abbrev pub with_pair : (ℕ → ℕ → Option ℕ) → ℕ → ℕ → ℕ → ℕ → ℕ → Option ℕ
 with_pair costs gate spare cost g s = if (g == gate) && (s == spare) then Some cost else costs g s

@@ -1,8 +1,10 @@
 // Tests of an answer against the rows.
 ghost use Rattle.std.specs.Prelude.{◌≡◌, ℕ, ◌+◌, ◌*◌, ◌≤◌, ◌<◌, ◌^◌, ◌-◌, ◌↔◌, IsTrue, ◌&&◌, is_some, pos, ◌≤ℤ◌, length, slice_index, take, drop};
+ghost use Rattle.eco_match.specs.Checks.{chosen_at, KeepsRule, NoneNegative, AreChosen, DiffersFromEarlier, AllDiffer, AllKeep};
 ghost use Rattle.eco_match.specs.Least.{sum_below, one_if, is_wanted, IsShort, signed_price_of, Certifies};
-ghost use Rattle.eco_match.specs.Rows.{AreRows, IsTableOf, table_cost, rows_cost, out_short, out_spare, out_price, chosen_at, KeepsRule, NoneNegative, AreChosen, DiffersFromEarlier, AllDiffer, AllKeep, out_worth};
-ghost use Rattle.eco_match.specs.Phase.{InRow};
+ghost use Rattle.eco_match.specs.MatchOut.{out_short, out_spare, out_price, out_worth};
+ghost use Rattle.eco_match.specs.Rows.{AreRows, IsTableOf, rows_cost};
+ghost use Rattle.eco_match.specs.Table.{table_cost, InRow};
 
 use crate::answer::MatchOut;
 use crate::pairs::Rows;
@@ -10,18 +12,12 @@ use crate::table::{Table, pair_of};
 use eco_bench::Bench;
 
 /// Whether a gate is in the set and has the spare as a candidate.
-fn gate_wants(
-    rows: &Rows,
-    table: &Table<'_>,
-    out: &MatchOut,
-    gate: usize,
-    spare: u64,
-) -> bool
+fn gate_wants(rows: &Rows, table: &Table<'_>, out: &MatchOut, gate: usize, spare: u64) -> bool
     requires table { IsTableOf rows.now table.now }
     requires gate { gate < rows.now.gates }
     ensures { result ≡ (out_short out.now gate && is_some (table_cost table.now gate spare)) }
 {
-    let cost = pair_of(rows, table, gate, spare);
+    let cost = pair_of(table, gate, spare);
     out.short[gate] && cost.is_some()
 }
 
@@ -91,9 +87,9 @@ fn is_chosen(rows: &Rows, table: &Table<'_>, out: &MatchOut, gate: usize) -> boo
 {
     let worth = out.worth[gate];
     let price = out.price[gate];
-    match pair_of(rows, table, gate, u64::from(out.spare[gate])) {
+    match pair_of(table, gate, u64::from(out.spare[gate])) {
         None => false,
-        Some(cost) => price >= 0 && worth >= price && worth - price == i128::from(cost),
+        Some(cost) => price >= 0 && worth.checked_sub(price) == Some(i128::from(cost)),
     }
 }
 

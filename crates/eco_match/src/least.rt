@@ -1,7 +1,9 @@
 // A least mapping, or a short set.
 ghost use Rattle.std.specs.Prelude.{◌≡◌, ℕ, ◌+◌, ◌<◌, ◌^◌, length};
-ghost use Rattle.eco_bench.specs.Region.{ChangesOnly};
-ghost use Rattle.eco_match.specs.Rows.{AreParts, AreRows, work_len, parts_cost, rows_cost, short_gate, out_short, IsAnswer, IsExact};
+ghost use Rattle.eco_bench.specs.Region.{ChangesOnly, room_of};
+ghost use Rattle.eco_match.specs.MatchOut.{out_short, IsAnswer, IsExact};
+ghost use Rattle.eco_match.specs.Rows.{AreParts, AreRows, work_len, parts_cost, rows_cost};
+ghost use Rattle.eco_match.specs.Solve.{short_gate};
 ghost use Rattle.eco_match.specs.Work.{HasPlace};
 
 use crate::answer::{MatchOut, Matching};
@@ -15,6 +17,7 @@ pub fn match_least(bench: &mut Bench, rows: &Rows, out: &mut MatchOut) -> Matchi
     requires rows { AreRows bench.old rows.now }
     ensures answer { IsAnswer rows.now.gates rows.now.spares (rows_cost bench.old rows.now) out.new result }
     ensures exact { IsExact rows.now.gates (rows_cost bench.old rows.now) out.new result }
+    ensures room { room_of bench.new ≡ room_of bench.old }
     ensures kept { ChangesOnly bench.old bench.new rows.now.span }
     ensures rows { AreRows bench.new rows.now }
     ensures costs { rows_cost bench.new rows.now ≡ rows_cost bench.old rows.now }

@@ -2,7 +2,8 @@
 ghost use Rattle.std.specs.Prelude.{◌≡◌, ℕ, ◌+◌, ◌*◌, ◌≤◌, ◌<◌, length, slice_index, take, drop, ◌^◌, ◌-◌, None};
 ghost use Rattle.eco_bench.specs.declared.Span.{Span};
 ghost use Rattle.eco_bench.specs.Region.{Stands, ChangesOnly, room_of, words_of};
-ghost use Rattle.eco_match.specs.Rows.{AreParts, AreRows, IsTableOf, starts_of, ends_of, table_cost, parts_cost, rows_cost, find_cost, need, work_len, PairWritten, ComesNext, with_pair, wider};
+ghost use Rattle.eco_match.specs.Rows.{AreParts, AreRows, IsTableOf, starts_of, ends_of, parts_cost, rows_cost, need, work_len, PairWritten, ComesNext, with_pair, wider};
+ghost use Rattle.eco_match.specs.Table.{table_cost, find_cost};
 
 use crate::table::{Table, pair_of};
 use eco_bench::{Bench, Span};
@@ -26,7 +27,7 @@ pub fn bench_need(gates: u32, spares: u32, pairs: u32) -> usize
 
 impl Rows {
     /// How many words the search works in: an owner for each spare, and five words for each place.
-    pub fn work_words(&self) -> usize
+    pub(crate) fn work_words(&self) -> usize
         requires few { (self.now.gates < 129) × (self.now.spares < 2 ^ 32) }
         ensures { result ≡ work_len self.now }
     {
@@ -42,6 +43,7 @@ impl Rows {
         ensures empty { (g s : ℕ) → rows_cost bench.new result g s ≡ None }
         ensures span { (result.span.start ≡ bench.old.used) × (result.span.len ≡ need gates spares pairs) }
         ensures used { bench.new.used ≡ bench.old.used + need gates spares pairs }
+        ensures size { length bench.new.words ≡ length bench.old.words }
         ensures kept { (other : Span) → Stands bench.old other → words_of bench.new other ≡ words_of bench.old other }
     {
         let span = bench.carve(bench_need(gates, spares, pairs));
@@ -82,11 +84,11 @@ impl Rows {
         requires gate { gate < self.now.gates }
         ensures { result ≡ rows_cost bench.now self.now gate spare }
     {
-        pair_of(self, &self.table(bench), gate as usize, spare as u64)
+        pair_of(&self.table(bench), gate as usize, spare as u64)
     }
 
     /// The table of the pairs.
-    pub fn table<'a>(&self, bench: &'a Bench) -> Table<'a>
+    pub(crate) fn table<'a>(&self, bench: &'a Bench) -> Table<'a>
         requires rows { AreRows bench.now self.now }
         ensures table { IsTableOf self.now result }
         ensures costs { table_cost result ≡ rows_cost bench.now self.now }
@@ -99,7 +101,7 @@ impl Rows {
 }
 
 /// The table of the pairs, out of the parts of the words that hold them.
-pub fn table_of<'a>(rows: &Rows, head: &'a [u64], columns: &'a [u64]) -> Table<'a>
+pub(crate) fn table_of<'a>(rows: &Rows, head: &'a [u64], columns: &'a [u64]) -> Table<'a>
     requires { AreParts rows.now head.now columns.now }
     ensures table { IsTableOf rows.now result }
     ensures costs { table_cost result ≡ parts_cost rows.now head.now columns.now }

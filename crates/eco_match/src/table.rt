@@ -1,9 +1,6 @@
 // The table of the candidate pairs, gate by gate.
 ghost use Rattle.std.specs.Prelude.{◌≡◌, ℕ, ◌+◌, ◌-◌, ◌≤◌, ◌<◌, length, slice_index};
-ghost use Rattle.eco_match.specs.declared.pairs.Rows.{Rows};
-ghost use Rattle.eco_match.specs.Rows.{IsTableOf, table_cost, find_cost};
-
-use crate::pairs::Rows;
+ghost use Rattle.eco_match.specs.Table.{AreRising, table_cost, find_cost};
 
 /// The pairs of all gates. Those of gate g stand together, by rising spares: they are the places from
 /// `starts[g + 1]` to `ends[g + 1]` of `spares` and `costs`.
@@ -39,9 +36,12 @@ fn find_halving(spares: &[u64], costs: &[u64], start: usize, end: usize, spare: 
 }
 
 /// The cost of a gate on a spare, or None where they are no pair.
-pub fn pair_of(rows: &Rows, table: &Table<'_>, gate: usize, spare: u64) -> Option<u64>
-    requires table { IsTableOf rows.now table.now }
-    requires gate { gate < rows.now.gates }
+pub fn pair_of(table: &Table<'_>, gate: usize, spare: u64) -> Option<u64>
+    requires starts { length table.now.starts.now ≡ length table.now.ends.now }
+    requires gate { gate + 1 < length table.now.ends.now }
+    requires row { slice_index table.now.ends.now (gate + 1) ≤ length table.now.spares.now }
+    requires costs { length table.now.costs.now ≡ length table.now.spares.now }
+    requires rising { AreRising table.now }
     ensures { result ≡ table_cost table.now gate spare }
 {
     let start = table.starts[gate + 1] as usize;

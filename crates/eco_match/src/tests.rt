@@ -190,6 +190,54 @@ fn worked_tables_have_their_least_totals(rt: HostRuntime) -> Result<(), Fail> {
 }
 
 #[test]
+fn worked_certificates_are_told_from_wrong_ones(rt: HostRuntime) -> Result<(), Fail> {
+    let costs = [
+        [Some(1900), Some(4100), Some(2100), None, None],
+        [Some(1000), Some(5000), Some(3000), None, None],
+    ];
+    let mut bench = Bench::new(rt.alloc(), bench_need(2, 5, 10))?;
+    let rows = rows_of(&mut bench, &costs);
+    let mut out = MatchOut::new();
+    out.spare[0] = 2;
+    out.worth[0] = 2100;
+    out.worth[1] = 1200;
+    out.price[1] = 200;
+    assert!(rt; check_prices(&bench, &rows, &out));
+    out.price[1] = 199;
+    assert!(rt; !check_prices(&bench, &rows, &out));
+    out.worth[1] = 1199;
+    assert!(rt;
+        !check_prices(&bench, &rows, &out),
+        "the first gate would rather have the first spare"
+    );
+    out.worth[1] = 1200;
+    out.price[1] = 200;
+    out.worth[0] = 2000;
+    out.price[0] = -100;
+    assert!(rt; !check_prices(&bench, &rows, &out), "a price below 0");
+    out.spare[0] = 0;
+    assert!(rt;
+        !check_prices(&bench, &rows, &out),
+        "one spare for two gates"
+    );
+    Ok(())
+}
+
+#[test]
+fn worked_short_sets_are_told_from_wrong_ones(rt: HostRuntime) -> Result<(), Fail> {
+    let nand = [None, Some(5), Some(5), None, None];
+    let mut bench = Bench::new(rt.alloc(), bench_need(3, 5, 15))?;
+    let rows = rows_of(&mut bench, &[nand, nand, nand]);
+    let mut out = MatchOut::new();
+    out.short[0] = true;
+    out.short[1] = true;
+    assert!(rt; !check_short(&bench, &rows, &out));
+    out.short[2] = true;
+    assert!(rt; check_short(&bench, &rows, &out));
+    Ok(())
+}
+
+#[test]
 fn random_tables_agree_with_a_search_of_all_mappings(rt: HostRuntime) -> Result<(), Fail> {
     let mut seed = 7u64;
     let mut short = 0u32;
@@ -208,5 +256,55 @@ fn random_tables_agree_with_a_search_of_all_mappings(rt: HostRuntime) -> Result<
         }
     }
     assert!(rt; short > 100 && short < 500);
+    Ok(())
+}
+
+/// Adds all pairs of one gate of a wide table.
+fn add_wide_row(bench: &mut Bench, rows: &mut Rows, gate: u32, spares: u32)
+    requires rows { AreRows bench.old rows.old }
+    requires gate { gate < rows.old.gates }
+    requires spares { spares ≡ rows.old.spares }
+    requires filled { rows.old.filled ≡ gate * spares }
+    requires room { (gate + 1) * spares ≤ rows.old.pairs }
+    requires next { ComesNext rows.old.gates (rows_cost bench.old rows.old) gate 0 }
+    ensures rows { AreRows bench.new rows.new }
+    ensures gates { rows.new.gates ≡ rows.old.gates }
+    ensures spares { rows.new.spares ≡ rows.old.spares }
+    ensures pairs { rows.new.pairs ≡ rows.old.pairs }
+    ensures filled { rows.new.filled ≡ (gate + 1) * spares }
+    ensures next { ComesNext rows.new.gates (rows_cost bench.new rows.new) (gate + 1) 0 }
+{
+    'spares: for spare in 0..spares {
+        let cost = (37 * u64::from(gate) + 11 * u64::from(spare)) % 1000;
+        rows.add(bench, gate, spare, cost);
+    }
+}
+
+/// Rows with all pairs of 128 gates and 8,192 spares.
+fn wide_rows(bench: &mut Bench) -> Rows
+    requires { need 128 8192 1048576 ≤ room_of bench.old }
+    ensures { AreRows bench.new result }
+{
+    let mut rows = Rows::begin(bench, 128, 8192, 1048576);
+    'gates: for gate in 0..128u32 {
+        add_wide_row(bench, &mut rows, gate, 8192);
+    }
+    rows
+}
+
+#[test]
+fn a_wide_table_is_matched_at_prices_that_hold(rt: HostRuntime) -> Result<(), Fail> {
+    let words = bench_need(128, 8192, 1048576);
+    assert_eq!(rt; words, 2163776);
+    let mut bench = Bench::new(rt.alloc(), words)?;
+    let rows = wide_rows(&mut bench);
+    let mut out = MatchOut::new();
+    assert_eq!(rt; match_least(&mut bench, &rows, &mut out), Matching::Matched);
+    assert!(rt; check_prices(&bench, &rows, &out));
+    for gate in 0..128usize {
+        let cost = (37 * gate as u64 + 11 * u64::from(out.spare[gate])) % 1000;
+        assert_eq!(rt; cost, 0, "gate {gate}");
+    }
+    assert_eq!(rt; bench.room(), 0);
     Ok(())
 }

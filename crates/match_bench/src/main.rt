@@ -83,8 +83,16 @@ fn fill(bench: &mut Bench, gates: u32, spares: u32, costs: Costs) -> Rows
 /// Reads the words of the command line behind the program's name.
 fn read_task<R: Env + AllocGlobal>(rt: &R) -> Result<Task> {
     let mut words = env::args(rt)?.skip(1);
-    let gates = words.next().context("no number of gates")?.parse::<u32>().context("gates")?;
-    let spares = words.next().context("no number of spares")?.parse::<u32>().context("spares")?;
+    let gates = words
+        .next()
+        .context("no number of gates")?
+        .parse::<u32>()
+        .context("gates")?;
+    let spares = words
+        .next()
+        .context("no number of spares")?
+        .parse::<u32>()
+        .context("spares")?;
     let costs = match words.next().context("no kind of costs")?.as_str() {
         "remainders" => Costs::Remainders,
         "products" => Costs::Products,
@@ -93,11 +101,21 @@ fn read_task<R: Env + AllocGlobal>(rt: &R) -> Result<Task> {
     ensure!(gates <= 128, "at most 128 gates");
     ensure!(spares <= 32768, "at most 32768 spares");
     let times = words.next().is_some();
-    Ok(Task { gates, spares, costs, times })
+    Ok(Task {
+        gates,
+        spares,
+        costs,
+        times,
+    })
 }
 
 fn run<R: Env + Clock + Print + AllocGlobal>(rt: &R) -> Result<()> {
-    let Task { gates, spares, costs, times } = read_task(rt)?;
+    let Task {
+        gates,
+        spares,
+        costs,
+        times,
+    } = read_task(rt)?;
     let mut bench = Bench::new(rt.alloc(), bench_need(gates, spares, gates * spares))?;
     let begun = Instant::now(rt)?;
     let rows = fill(&mut bench, gates, spares, costs);

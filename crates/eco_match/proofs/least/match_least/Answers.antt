@@ -1,5 +1,6 @@
 use Rattle.std.proofs.Common.{arith, ap, subst, ◌∙◌, List, ℕ, Option, drop}
-use Rattle.eco_match.specs.Rows.{head_of, columns_of, work_len, IsAnswer, IsExact}
+use Rattle.eco_match.specs.MatchOut.{IsAnswer, IsExact}
+use Rattle.eco_match.specs.Rows.{head_of, columns_of, work_len}
 use Rattle.eco_match.proofs.Kept.{Written, only-work, rows-kept, costs-kept, costs-read}
 use Rattle.eco_match.proofs.least.match_least.Goals as goal
 
@@ -20,10 +21,12 @@ returns c =
       work_is = omega (arith, o.ensures.front_len, c.work_words.ensures, c.match_parts.auto.work);
     } in
     let read = costs-read area r h.result.0.now work o.result.1.now w in
+    let only = only-work area r h.result.0.now work o.result.1.now w in
     record {
       answer = subst (λ (costs : ℕ → ℕ → Option ℕ). IsAnswer r.gates r.spares costs c.match_parts.new.out c.match_parts.result) read c.match_parts.ensures.answer;
       exact = subst (λ (costs : ℕ → ℕ → Option ℕ). IsExact r.gates costs c.match_parts.new.out c.match_parts.result) read c.match_parts.ensures.exact;
-      kept = only-work area r h.result.0.now work o.result.1.now w;
+      room = omega (arith, only.used, only.size);
+      kept = only;
       rows = rows-kept area r h.result.0.now work o.result.1.now w c.requires.rows;
       costs = costs-kept area r h.result.0.now work o.result.1.now w;
     }

@@ -1,6 +1,7 @@
 use Rattle.std.proofs.Common.{arith, subst, ℕ, Option}
-use Rattle.eco_match.specs.Rows.{table_cost, parts_cost, out_spare, out_worth, out_price, out_short, IsAnswer, IsExact}
 use Rattle.eco_match.specs.Least.{Certifies, IsShort, IsLeast, HasNone}
+use Rattle.eco_match.specs.MatchOut.{out_spare, out_worth, out_price, out_short}
+use Rattle.eco_match.specs.Table.{table_cost}
 use Rattle.eco_match.proofs.Parts.{answer-all, answer-short, least-all, none-short}
 use Rattle.eco_match.proofs.least.match_parts.Goals as goal
 

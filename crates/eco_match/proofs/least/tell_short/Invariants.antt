@@ -1,5 +1,6 @@
 use Rattle.std.proofs.Common.{ℕ, ◌<◌, ◌≡◌}
-use Rattle.eco_match.specs.Rows.{out_short, short_gate}
+use Rattle.eco_match.specs.MatchOut.{out_short}
+use Rattle.eco_match.specs.Solve.{short_gate}
 use Rattle.eco_match.proofs.least.tell_short.Given as goal
 
 abbrev pub invariant-loop-gate : goal.invariant-loop-gate

@@ -1,4 +1,4 @@
-use Rattle.std.proofs.Common.{refl, ap, ◌∙◌, List, ℕ, take}
+use Rattle.std.proofs.Common.{ap, ◌∙◌, List, ℕ, take}
 use Rattle.eco_match.specs.declared.table.Table.{Table}
 use Rattle.eco_match.proofs.Parts.{FromParts, is-table, table-costs}
 use Rattle.eco_match.proofs.pairs.table_of.Goals as goal

@@ -21,5 +21,6 @@ returns c =
       empty = cost-begun area r words over empty;
       span = (c.carve-span.ensures.span.0, c.carve-span.ensures.span.1 ∙ c.bench_need.ensures);
       used = omega (arith, c.carve-span.ensures.used, c.bench_need.ensures);
+      size = omega (arith, only.size, ap (λ (ws : List ℕ). length ws) c.carve-span.ensures.words);
       kept = λ other stands. only.apart other (inr (omega (arith, stands, c.carve-span.ensures.span.0))) ∙ ap (λ (ws : List ℕ). slice_range ws other.start (other.start + other.len)) c.carve-span.ensures.words;
     }
