@@ -64,7 +64,8 @@ fn members(rows: &Rows, out: &MatchOut) -> usize
     count
 }
 
-/// Whether the answer's set of gates has fewer candidates than members.
+/// Whether the answer's set of gates has fewer candidates than members, which shows that there is no
+/// mapping.
 pub fn check_short(bench: &Bench, rows: &Rows, out: &MatchOut) -> bool
     requires { AreRows bench.now rows.now }
     ensures { IsTrue result ↔ IsShort rows.now.gates rows.now.spares (rows_cost bench.now rows.now) (out_short out.now) }
@@ -72,6 +73,7 @@ pub fn check_short(bench: &Bench, rows: &Rows, out: &MatchOut) -> bool
     is_short(rows, &rows.table(bench), out)
 }
 
+/// Whether the set has fewer candidates than members.
 fn is_short(rows: &Rows, table: &Table<'_>, out: &MatchOut) -> bool
     requires { IsTableOf rows.now table.now }
     ensures { IsTrue result ↔ IsShort rows.now.gates rows.now.spares (table_cost table.now) (out_short out.now) }
@@ -110,6 +112,7 @@ fn price_of(out: &MatchOut, count: usize, spare: u64) -> i128
     0
 }
 
+/// Whether a gate's worth less the price of a pair's spare is at most the pair's cost.
 fn keeps_rule(table: &Table<'_>, out: &MatchOut, count: usize, gate: usize, pair: usize) -> bool
     requires count { (count < 129) × (gate < count) }
     requires prices { NoneNegative out.now count }
@@ -142,6 +145,7 @@ fn row_keeps(table: &Table<'_>, out: &MatchOut, count: usize, gate: usize) -> bo
     true
 }
 
+/// Whether each gate has a candidate, at its cost and no price below 0.
 fn all_chosen(rows: &Rows, table: &Table<'_>, out: &MatchOut) -> bool
     requires table { IsTableOf rows.now table.now }
     ensures { IsTrue result ↔ AreChosen rows.now.gates (table_cost table.now) out.now }
@@ -154,6 +158,7 @@ fn all_chosen(rows: &Rows, table: &Table<'_>, out: &MatchOut) -> bool
     true
 }
 
+/// Whether no gate before this one has its spare.
 fn differs(out: &MatchOut, gate: usize) -> bool
     requires { gate < 128 }
     ensures { IsTrue result ↔ DiffersFromEarlier out.now gate }
@@ -166,6 +171,7 @@ fn differs(out: &MatchOut, gate: usize) -> bool
     true
 }
 
+/// Whether no two gates have one spare.
 fn all_differ(out: &MatchOut, count: usize) -> bool
     requires { count < 129 }
     ensures { IsTrue result ↔ AllDiffer out.now count }
@@ -178,6 +184,7 @@ fn all_differ(out: &MatchOut, count: usize) -> bool
     true
 }
 
+/// Whether all pairs of all gates keep the rule.
 fn all_keep(table: &Table<'_>, out: &MatchOut, count: usize) -> bool
     requires count { count < 129 }
     requires prices { NoneNegative out.now count }
@@ -195,6 +202,7 @@ fn all_keep(table: &Table<'_>, out: &MatchOut, count: usize) -> bool
     true
 }
 
+/// Whether the answer is a mapping, with worths and prices that meet the rules.
 fn is_certificate(rows: &Rows, table: &Table<'_>, out: &MatchOut) -> bool
     requires table { IsTableOf rows.now table.now }
     ensures { IsTrue result ↔ Certifies rows.now.gates (table_cost table.now) (out_spare out.now) (out_worth out.now) (out_price out.now) }

@@ -12,7 +12,8 @@ use crate::solve::solve;
 use crate::work::rank_of;
 use eco_bench::Bench;
 
-/// A least mapping with worths and prices, or a short set.
+/// Finds a mapping of the gates that costs least, with worths and prices that show it, or a short set,
+/// exactly where there is no mapping. It works in the words of the rows, and takes no memory.
 pub fn match_least(bench: &mut Bench, rows: &Rows, out: &mut MatchOut) -> Matching
     requires rows { AreRows bench.old rows.now }
     ensures answer { IsAnswer rows.now.gates rows.now.spares (rows_cost bench.old rows.now) out.new result }
@@ -28,6 +29,7 @@ pub fn match_least(bench: &mut Bench, rows: &Rows, out: &mut MatchOut) -> Matchi
     match_parts(rows, head, work, columns, out)
 }
 
+/// The same, over the parts of the words: where rows start and end, the work, and the pairs.
 fn match_parts(
     rows: &Rows,
     head: &[u64],

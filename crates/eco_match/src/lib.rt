@@ -1,4 +1,5 @@
-// Least mappings of gates onto spares.
+// Least mappings of gates onto spares, by augmenting paths of least reduced cost with worths and prices
+// (Kuhn 1955, Munkres 1957; Jonker and Volgenant 1987).
 #![tactic(auto)]
 
 ghost use Rattle.std.specs.Prelude.{◌≡◌, ℕ, ◌≤◌, Option, Bool, ℤ, length};

@@ -8,17 +8,23 @@ ghost use Rattle.eco_match.specs.Table.{table_cost, find_cost};
 use crate::table::{Table, pair_of};
 use eco_bench::{Bench, Span};
 
-/// Where the rows of a problem stand, and how many pairs they have so far.
+/// Where the rows of a matching stand in a bench. The words of the span are: where the row of each
+/// gate starts, and where it ends; an owner for each spare; the tree of the search; the spares of all
+/// pairs, and their costs.
 #[derive(Clone, Copy, Debug)]
 pub struct Rows {
     pub span: Span,
+    /// How many gates are to be matched, at most 128.
     pub gates: usize,
+    /// How many spares there are.
     pub spares: usize,
+    /// How many pairs there is room for.
     pub pairs: usize,
+    /// How many pairs stand.
     pub filled: usize,
 }
 
-/// How many words the rows and the search take.
+/// How many words a matching takes: its rows and all work of the search.
 pub fn bench_need(gates: u32, spares: u32, pairs: u32) -> usize
     ensures { result ≡ need gates spares pairs }
 {
@@ -58,7 +64,7 @@ impl Rows {
         rows
     }
 
-    /// Adds a pair behind the others.
+    /// Adds a pair behind the others: pairs come by rising gate, and of a gate by rising spare.
     pub fn add(&mut self, bench: &mut Bench, gate: u32, spare: u32, cost: u64)
         requires rows { AreRows bench.old self.old }
         requires gate { gate < self.old.gates }
@@ -78,7 +84,7 @@ impl Rows {
         self.filled += 1;
     }
 
-    /// The cost of a gate on a spare, or None where they are no pair.
+    /// The cost of a gate on a spare; None exactly where they are no pair.
     pub fn pair(&self, bench: &Bench, gate: u32, spare: u32) -> Option<u64>
         requires rows { AreRows bench.now self.now }
         requires gate { gate < self.now.gates }
@@ -118,6 +124,7 @@ pub(crate) fn table_of<'a>(rows: &Rows, head: &'a [u64], columns: &'a [u64]) -> 
     }
 }
 
+/// Sets the first words to 0.
 fn clear(words: &mut [u64], count: usize)
     requires { count ≤ length words.old }
     ensures { (k : ℕ) → k < count → slice_index words.new k ≡ 0 }
@@ -127,6 +134,7 @@ fn clear(words: &mut [u64], count: usize)
     }
 }
 
+/// Writes a pair behind the others, and widens the row of its gate.
 fn write_pair(
     rows: &Rows,
     head: &mut [u64],
