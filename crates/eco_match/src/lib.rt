@@ -5,7 +5,10 @@
 ghost use Rattle.std.specs.Prelude.{◌≡◌, ℕ, ◌≤◌, Option, Bool, ℤ, length};
 ghost use Rattle.eco_bench.specs.Region.{Area, Stands, words_of};
 ghost use Rattle.eco_match.specs.declared.pairs.Rows.{Rows};
-ghost use Rattle.eco_match.specs.Least.{IsLeast, HasNone, Certifies, IsShort, AreBelow};
+ghost use Rattle.eco_match.specs.Least.{IsLeast, HasNone, Certifies, IsShort, AreBelow, AreSameCosts};
+ghost use Rattle.eco_match.specs.MatchOut.{IsAnswer, IsExact};
+ghost use Rattle.eco_match.specs.declared.answer.MatchOut.{MatchOut};
+ghost use Rattle.eco_match.specs.declared.answer.Matching.{Matching};
 ghost use Rattle.eco_match.specs.Rows.{AreRows, rows_cost};
 
 mod answer;
@@ -36,6 +39,12 @@ pub fn short_implies_none()
 pub fn rows_stand_with_their_words()
     ensures stand { (old new : Area) → (rows : Rows) → AreRows old rows → Stands new rows.span → new.used ≤ length new.words → words_of new rows.span ≡ words_of old rows.span → AreRows new rows }
     ensures costs { (old new : Area) → (rows : Rows) → words_of new rows.span ≡ words_of old rows.span → rows_cost new rows ≡ rows_cost old rows }
+{}
+
+/// An answer for some costs is one for all costs that agree with them.
+pub fn answers_hold_for_the_same_costs()
+    ensures answer { (gates spares : ℕ) → (a b : ℕ → ℕ → Option ℕ) → (out : MatchOut) → (matching : Matching) → AreSameCosts gates a b → IsAnswer gates spares a out matching → IsAnswer gates spares b out matching }
+    ensures exact { (gates : ℕ) → (a b : ℕ → ℕ → Option ℕ) → (out : MatchOut) → (matching : Matching) → AreSameCosts gates a b → IsExact gates a out matching → IsExact gates b out matching }
 {}
 
 #[cfg(test)]
