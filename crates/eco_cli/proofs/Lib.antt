@@ -1,1 +1,4 @@
 pub mod Opening
+mod Answering
+mod Ending
+mod Words

@@ -1,7 +1,7 @@
 -- The first object of a name, and the lists without it.
 use Rattle.std.specs.Str.{bytes_eq}
 use Rattle.std.specs.List.{remove}
-use Rattle.std.proofs.Common.{◌≡◌, ℕ, zero, suc, ◌<◌, Bool, true, false, List, [], ◌∷◌, ◌++◌, length, map, take, drop, get_or, Option, Some, None, position, refl, ap, sym, ◌∙◌, subst, arith, if◌then◌else◌}
+use Rattle.std.proofs.Common.{◌≡◌, ℕ, zero, suc, ◌<◌, Bool, true, false, List, [], ◌∷◌, length, map, get_or, Some, None, position, refl, ap, sym, ◌∙◌, arith, if◌then◌else◌}
 use Rattle.std.proofs.Math.Path.{fun_ext}
 use Rattle.std.proofs.lemmas.List.Quantifiers.{position-Some}
 use Rattle.std.proofs.lemmas.Slice.Eq.{bytes_eq-Decides}
@@ -15,8 +15,8 @@ first_at : {A : Type 0} (view : A → Laid) (name : List ℕ) (ls : List A) (i :
 first_at view name [] i d lt found before = absurd (omega arith)
 first_at view name (l ∷ ls) zero d lt found before = (ready (map view ls) name, ap (λ b. if b then (view l).object ∷ ready (map view ls) name else ready (map view ls) name) found)
 first_at view name (l ∷ ls) (suc i) d lt found before =
-  let rest = first_at view name ls i d (omega arith) found (λ k h. before (suc k) (omega arith)) in
-  (rest.0, ap (λ b. if b then (view l).object ∷ ready (map view ls) name else ready (map view ls) name) (before 0 (omega arith)) ∙ rest.1)
+    let rest = first_at view name ls i d (omega arith) found (λ k h. before (suc k) (omega arith)) in
+    (rest.0, ap (λ b. if b then (view l).object ∷ ready (map view ls) name else ready (map view ls) name) (before 0 (omega arith)) ∙ rest.1)
 
 here : (x : InMemory) (xs : List InMemory) (a b : Bool) → a ≡ b → xs ≡ (if b then rest_of (if a then x ∷ xs else xs) else (if a then x ∷ xs else xs))
 here x xs true true same = refl
@@ -35,9 +35,9 @@ without_at : {A : Type 0} (view : A → Laid) (name : List ℕ) (ls : List A) (i
     ready (map view (remove ls i)) other ≡ (if bytes_eq name other then rest_of (ready (map view ls) other) else ready (map view ls) other)
 without_at view name [] i d lt found before other = absurd (omega arith)
 without_at view name (l ∷ ls) zero d lt found before other =
-  here (view l).object (ready (map view ls) other) (bytes_eq (view l).name other) (bytes_eq name other) (ap (λ k. bytes_eq k other) ((bytes_eq-Decides (view l).name name).0 found))
+    here (view l).object (ready (map view ls) other) (bytes_eq (view l).name other) (bytes_eq name other) (ap (λ k. bytes_eq k other) ((bytes_eq-Decides (view l).name name).0 found))
 without_at view name (l ∷ ls) (suc i) d lt found before other =
-  there (view l).object (ready (map view ls) other) (ready (map view (remove ls i)) other) (bytes_eq (view l).name other) (bytes_eq name other)
+    there (view l).object (ready (map view ls) other) (ready (map view (remove ls i)) other) (bytes_eq (view l).name other) (bytes_eq name other)
     (λ on. ap (bytes_eq (view l).name) (sym ((bytes_eq-Decides name other).0 on)) ∙ before 0 (omega arith))
     (without_at view name ls i d (omega arith) found (λ k h. before (suc k) (omega arith)) other)
 
@@ -45,11 +45,11 @@ without_at view name (l ∷ ls) (suc i) d lt found before other =
 pub opened : {A : Type 0} (view : A → Laid) (name : List ℕ) (ls ms : List A) (i : ℕ) (x : A) → position (λ l. bytes_eq (view l).name name) ls ≡ Some i → x ≡ get_or ls i x → ms ≡ remove ls i →
     IsFirst name (Some (ready (map view ls))) (view x).object × (Some (ready (map view ms)) ≡ without_first name (Some (ready (map view ls))))
 opened view name ls ms i x at is removed =
-  let p = position-Some (λ l. bytes_eq (view l).name name) ls i x at in
-  let f = first_at view name ls i x p.0 p.1 p.2 in
-  ( (λ lists told. (f.0, ap (λ g. of g name) (sym told) ∙ f.1 ∙ ap (λ k. (view k).object ∷ f.0) (sym is)))
-  , ap Some (ap (λ k. ready (map view k)) removed ∙ fun_ext (without_at view name ls i x p.0 p.1 p.2))
-  )
+    let p = position-Some (λ l. bytes_eq (view l).name name) ls i x at in
+    let f = first_at view name ls i x p.0 p.1 p.2 in (
+      (λ lists told. (f.0, ap (λ g. of g name) (sym told) ∙ f.1 ∙ ap (λ k. (view k).object ∷ f.0) (sym is))),
+      ap Some (ap (λ k. ready (map view k)) removed ∙ fun_ext (without_at view name ls i x p.0 p.1 p.2)),
+    )
   where
     of : Ready InMemory → List ℕ → List InMemory
     of None n = []

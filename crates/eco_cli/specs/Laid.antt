@@ -1,5 +1,5 @@
 -- Objects that are laid ready under names in memory.
-use Rattle.std.specs.Prelude.{ℕ, Bool, List, [], ◌∷◌, map, string_bytes, if◌then◌else◌}
+use Rattle.std.specs.Prelude.{ℕ, List, [], ◌∷◌, string_bytes, if◌then◌else◌}
 use Rattle.std.specs.Str.{bytes_eq}
 use Rattle.eco_text.specs.InMemory.{InMemory}
 use Rattle.eco_cli.specs.declared.laid.LaidSource.{LaidSource}

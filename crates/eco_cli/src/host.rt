@@ -10,10 +10,12 @@ use eco_text::{Sink, Source};
 /// objects that have failed.
 pub trait Host {
     type Input: Source + Drop;
+
     type Output: Sink + Drop;
 
     /// What the next opens of each name give, in order, where it tells.
     ghost sources: { Self → Ready Self.Input };
+
     ghost sinks: { Self → Ready Self.Output };
 
     /// The opens that were asked and didn't find memory wanting, in order, where it tells.
@@ -21,15 +23,19 @@ pub trait Host {
 
     /// The objects that were taken back, in order, where it tells.
     ghost sources_back: { Self → Option (List Self.Input) };
+
     ghost sinks_back: { Self → Option (List Self.Output) };
 
     /// How many opens were refused, and how many objects were taken back that had failed.
     ghost refused: { Self → ℕ };
+
     ghost read_faults: { Self → ℕ };
+
     ghost write_faults: { Self → ℕ };
 
     /// How many objects are open.
     ghost open_sources: { Self → ℕ };
+
     ghost open_sinks: { Self → ℕ };
 
     /// Opens a source, which has no fault yet.

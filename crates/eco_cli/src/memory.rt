@@ -33,16 +33,16 @@ impl Model for MemoryHost {
     ghost Value = { Hosted };
 
     ghost view = { λ h. record {
-        sources = map laid_source h.sources.items;
-        sinks = map laid_sink h.sinks.items;
-        asked = map asked_of h.opens.items;
-        sources_back = h.sources_back.sources.items;
-        sinks_back = h.sinks_back.sinks.items;
-        refused = h.refused;
-        read_faults = h.read_faults;
-        write_faults = h.write_faults;
-        open_sources = h.sources_back.awaited;
-        open_sinks = h.sinks_back.awaited;
+      sources = map laid_source h.sources.items;
+      sinks = map laid_sink h.sinks.items;
+      asked = map asked_of h.opens.items;
+      sources_back = h.sources_back.sources.items;
+      sinks_back = h.sinks_back.sinks.items;
+      refused = h.refused;
+      read_faults = h.read_faults;
+      write_faults = h.write_faults;
+      open_sources = h.sources_back.awaited;
+      open_sinks = h.sinks_back.awaited;
     } };
 }
 
@@ -124,20 +124,30 @@ impl MemoryHost {
 
 impl Host for MemoryHost {
     type Input = ByteSource;
+
     type Output = ByteSink;
 
     ghost use Rattle.std.specs.Prelude.{Some};
     ghost use Rattle.eco_cli.specs.Laid.{ready};
 
     ghost sources = { λ h. Some (ready h.sources) };
+
     ghost sinks = { λ h. Some (ready h.sinks) };
+
     ghost asked = { λ h. Some h.asked };
+
     ghost sources_back = { λ h. Some h.sources_back };
+
     ghost sinks_back = { λ h. Some h.sinks_back };
+
     ghost refused = { λ h. h.refused };
+
     ghost read_faults = { λ h. h.read_faults };
+
     ghost write_faults = { λ h. h.write_faults };
+
     ghost open_sources = { λ h. h.open_sources };
+
     ghost open_sinks = { λ h. h.open_sinks };
 
     fn source(&mut self, name: &str) -> Result<ByteSource, HostFault> {

@@ -1,0 +1,55 @@
+-- What a command prints and answers.
+use Rattle.std.specs.Prelude.{◌≡◌, ℕ, decimal, ◌⊎◌, List, [], ◌∷◌, ◌++◌, Option, Some, None, Result, Ok, Err, codes}
+use Rattle.std.specs.Io.KnownBytes.{append_known}
+use Rattle.eco_text.specs.Causes.{Rose, AppendsFront}
+use Rattle.eco_base.specs.declared.fault.MoveFault.{MoveFault}
+use Rattle.eco_base.specs.declared.fault.MoveFault.TheVariants.{UnknownComponent, NotOnNet, UnknownNet, Memory}
+use Rattle.eco_cli.specs.declared.failure.Failure.{Failure}
+use Rattle.eco_cli.specs.declared.failure.Failure.TheVariants as failed
+
+abbrev pub status_of : Result ℕ Failure → ℕ
+status_of (Ok n) = 0
+status_of (Err (failed.Words n)) = 2
+status_of (Err failed.TooLong) = 1
+status_of (Err failed.Def) = 1
+status_of (Err (failed.Move fault)) = 1
+status_of (Err failed.Read) = 3
+status_of (Err failed.Write) = 4
+status_of (Err failed.Memory) = 6
+
+abbrev pub move_words : MoveFault → List ℕ
+move_words UnknownComponent = codes "eco: move UnknownComponent"
+move_words NotOnNet = codes "eco: move NotOnNet"
+move_words UnknownNet = codes "eco: move UnknownNet"
+move_words Memory = codes "eco: memory"
+
+-- what a line begins with
+abbrev pub head_of : Result ℕ Failure → List ℕ
+head_of (Ok n) = codes "written "
+head_of (Err (failed.Words n)) = codes "eco: words "
+head_of (Err failed.TooLong) = codes "eco: TooLong --def"
+head_of (Err failed.Def) = codes "eco: def NotYet"
+head_of (Err (failed.Move fault)) = move_words fault
+head_of (Err failed.Read) = codes "eco: read fault"
+head_of (Err failed.Write) = codes "eco: write fault"
+head_of (Err failed.Memory) = codes "eco: memory"
+
+-- the number at its end: how many bytes were written, or the index of the bad word
+abbrev pub number_of : Result ℕ Failure → Option ℕ
+number_of (Ok n) = Some n
+number_of (Err (failed.Words n)) = Some n
+number_of (Err f) = None
+
+abbrev pub with_number : List ℕ → Option ℕ → List ℕ
+with_number head None = head
+with_number head (Some n) = head ++ decimal n
+
+abbrev pub line_of : Result ℕ Failure → List ℕ
+line_of r = with_number (head_of r) (number_of r) ++ 10 ∷ []
+
+-- The line was printed, and this is the status; or the output failed, after a front of the line; or there was no memory for the line.
+abbrev pub Tells : Option (List ℕ) → Option (List ℕ) → ℕ → ℕ → List ℕ → ℕ → ℕ → Type 0
+Tells old new before now line status answer =
+    ((answer ≡ status) × (new ≡ append_known old line))
+    ⊎ ((answer ≡ 4) × AppendsFront old new line × Rose before now)
+    ⊎ ((answer ≡ 6) × (new ≡ old))

@@ -1,0 +1,32 @@
+//! Reading an input to its end.
+
+ghost use Rattle.std.specs.Prelude.{◌<◌, ◌≤◌};
+ghost use Rattle.eco_cli.specs.Whole.{ReadsAll};
+
+use crate::failure::Failure;
+use eco_text::Source;
+use std::alloc::Global;
+
+/// All the bytes of a source with at most that many. Of a longer one it reads one byte more.
+pub fn read_all<S: Source>(alloc: Global, limit: usize, source: &mut S) -> Result<Vec<u8>, Failure>
+    requires { limit < 4294967296 }
+    ensures reads { ReadsAll limit (S.left source.old) (S.faults source.old) (S.faults source.new) (λ v. v.items) result }
+    ensures later { S.faults source.old ≤ S.faults source.new }
+{
+    let mut bytes = Vec::new(alloc);
+    let mut piece = [0; 65_536];
+    while bytes.len() <= limit {
+        let room = (limit + 1 - bytes.len()).min(65_536);
+        let part = &mut piece[..room];
+        match source.read(part) {
+            Ok(0) => return Ok(bytes),
+            Ok(count) => {
+                if bytes.extend_from_slice(&part[..count]).is_err() {
+                    return Err(Failure::Memory);
+                }
+            }
+            Err(_) => return Err(Failure::Read),
+        }
+    }
+    Err(Failure::TooLong)
+}
