@@ -19,3 +19,6 @@ pub use crate::command::run;
 pub use crate::host::Host;
 pub use crate::host_fault::{HostFault, Memory};
 pub use crate::memory::MemoryHost;
+
+#[cfg(test)]
+mod tests;
