@@ -32,19 +32,29 @@ impl<'a, R: Files> FileHost<'a, R> {
 
 impl<'a, R: Files> Host for FileHost<'a, R> {
     type Input = ReadSource<R::File>;
+
     type Output = WriteSink<R::File>;
 
     ghost use Rattle.std.specs.Prelude.{None};
 
     ghost sources = { λ h. None };
+
     ghost sinks = { λ h. None };
+
     ghost asked = { λ h. None };
+
     ghost sources_back = { λ h. None };
+
     ghost sinks_back = { λ h. None };
+
     ghost refused = { λ h. h.refused };
+
     ghost read_faults = { λ h. h.read_faults };
+
     ghost write_faults = { λ h. h.write_faults };
+
     ghost open_sources = { λ h. h.open_sources };
+
     ghost open_sinks = { λ h. h.open_sinks };
 
     fn source(&mut self, name: &str) -> Result<ReadSource<R::File>, HostFault> {

@@ -24,6 +24,7 @@ impl<R: Read + Drop> Source for ReadSource<R> {
     ghost use Rattle.std.specs.Prelude.{None};
 
     ghost left = { λ s. None };
+
     ghost faults = { λ s. s.faults };
 
     fn read(&mut self, piece: &mut [u8]) -> Result<usize, Failed> {

@@ -36,6 +36,7 @@ impl<W: Write + Drop> Sink for WriteSink<W> {
     ghost use Rattle.std.specs.Prelude.{None};
 
     ghost taken = { λ s. None };
+
     ghost faults = { λ s. s.faults };
 
     fn write_all(&mut self, piece: &[u8]) -> Result<(), Failed> {
