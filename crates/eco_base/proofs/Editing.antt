@@ -1,6 +1,6 @@
 -- A text with edits, one after another.
-use Rattle.std.proofs.Common.{◌≡◌, ℕ, suc, ◌+◌, ◌-◌, ◌<◌, ◌≤◌, List, [], ◌∷◌, ◌++◌, length, take, drop, get_or, slice_range, refl, ap, sym, ◌∙◌, subst, arith, append_assoc, length-append, length-drop, length-take, Result, Ok, Err, OnErr, is_ok, if◌then◌else◌}
-use Rattle.std.proofs.lemmas.List.{drop_more, drop_all, drop-drop, take-append-drop, length-take-le}
+use Rattle.std.proofs.Common.{◌≡◌, ℕ, ◌+◌, ◌-◌, ◌<◌, ◌≤◌, List, [], ◌∷◌, ◌++◌, length, drop, get_or, slice_range, ap, sym, ◌∙◌, subst, arith, append_assoc, length-append, length-drop, Result, Ok, Err, OnErr, is_ok, if◌then◌else◌}
+use Rattle.std.proofs.lemmas.List.{drop_more, drop_all, length-take-le}
 use Rattle.eco_base.specs.declared.stretch.Stretch.{Stretch}
 use Rattle.eco_base.specs.Issued.{Edit, edited, InOrder}
 use Rattle.eco_base.specs.Overlays.{edits_of, Rises}

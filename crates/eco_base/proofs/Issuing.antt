@@ -1,8 +1,8 @@
 -- The statements that change, and the issued text.
 use Rattle.std.specs.Str.{bytes_eq}
-use Rattle.std.specs.List.{list_all, list_any, flat_map, filter}
-use Rattle.std.proofs.Common.{◌≡◌, ℕ, zero, suc, ◌+◌, ◌-◌, ◌<◌, ◌≤◌, Bool, true, false, not, ◌&&◌, ◌⊎◌, inl, inr, List, [], ◌∷◌, ◌++◌, length, take, drop, map, slice_range, refl, ap, sym, ◌∙◌, subst, arith, append_assoc, length-drop, if◌then◌else◌}
-use Rattle.std.proofs.lemmas.List.{drop-drop, take-append-drop, drop-take}
+use Rattle.std.specs.List.{list_all, flat_map, filter}
+use Rattle.std.proofs.Common.{◌≡◌, ℕ, zero, suc, ◌+◌, ◌-◌, ◌≤◌, Bool, true, false, not, ◌&&◌, ◌⊎◌, inl, inr, List, [], ◌∷◌, ◌++◌, length, take, drop, map, slice_range, refl, ap, sym, ◌∙◌, subst, arith, append_assoc, if◌then◌else◌}
+use Rattle.std.proofs.lemmas.List.{drop-drop, take-append-drop}
 use Rattle.eco_def.specs.declared.design.NetStatement.{NetStatement}
 use Rattle.eco_def.specs.declared.design.Design.{Design}
 use Rattle.eco_def.specs.View.{net_in, design_in, pin_in}
@@ -11,13 +11,12 @@ use Rattle.eco_text.specs.Cursor.{token}
 use Rattle.eco_def.specs.Named.{NamedJoint, NamedDesign, joint_names, pin_names, names_of}
 use Rattle.std.proofs.lemmas.Slice.Eq.{bytes_eq-Decides}
 use Rattle.std.proofs.lemmas.Bool.Decides.{same_from_decides}
-use Rattle.eco_def.specs.Sections.{AreOrdinary, ArePlaced, DesignLies}
+use Rattle.eco_def.specs.Sections.{ArePlaced, DesignLies}
 use Rattle.eco_def.proofs.Designs.{ordinary_all, special_none}
 use Rattle.eco_base.specs.Changes.{NewJoint, Changes, stays_on, pin_of, stands, has_statement, new_pins, is_nil, pin_precedes, precedes, in_order, once_each, Fresh, fresh_nets, changes_of}
-use Rattle.eco_base.specs.Issued.{Edit, edited, InOrder, statement_text, changed_text, stays_whole, net_text, net_edit, count_text, fresh_text, section_edits, special_edits, nets_first, edits, issued_text, IsOverlayOf}
-use Rattle.eco_base.specs.Overlays.{moved_text, move_edits}
+use Rattle.eco_base.specs.Issued.{Edit, edited, InOrder, statement_text, net_text, net_edit, count_text, fresh_text, section_edits, special_edits, nets_first, IsOverlayOf}
+use Rattle.eco_base.specs.Overlays.{move_edits}
 use Rattle.eco_base.specs.PinMoves.{stands_in}
-use Rattle.eco_base.proofs.Editing.{order_room}
 use Rattle.eco_base.proofs.Moves.{all_stands_is}
 
 -- ---- slices

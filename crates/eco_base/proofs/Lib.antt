@@ -1,4 +1,5 @@
 pub mod Stretches
 pub mod Editing
 mod Moves
+mod Examples
 pub mod Issuing

@@ -1,23 +1,19 @@
 -- What the code finds in its lists, as the definitions have it.
 use Rattle.std.specs.Str.{bytes_eq}
 use Rattle.std.specs.List.{list_all, list_any, flat_map, filter}
-use Rattle.std.specs.Option.{option_map}
-use Rattle.std.proofs.Common.{◌≡◌, ℕ, ◌<◌, ◌≤◌, Bool, true, false, not, ◌&&◌, ◌||◌, List, [], ◌∷◌, ◌++◌, length, drop, map, slice_range, Option, Some, None, Result, Ok, Err, OnOk, refl, ap, sym, ◌∙◌, subst, arith, append_assoc, append-nil, if◌then◌else◌}
+use Rattle.std.proofs.Common.{◌≡◌, ℕ, Bool, true, false, not, ◌&&◌, ◌||◌, List, [], ◌∷◌, ◌++◌, map, Some, None, Result, Ok, Err, OnOk, refl, ap, sym, ◌∙◌, append_assoc, if◌then◌else◌}
 use Rattle.std.proofs.lemmas.List.Folds.{list_all-map}
 use Rattle.eco_def.specs.declared.design.NetStatement.{NetStatement}
-use Rattle.eco_def.specs.declared.design.Joint.{Joint}
-use Rattle.eco_def.specs.declared.design.Comp.{Comp}
 use Rattle.std.proofs.Math.Path.{fun_ext}
 use Rattle.eco_def.specs.declared.design.Design.{Design}
 use Rattle.eco_def.specs.View.{joint_in, net_in, comp_in, pin_in, design_in}
 use Rattle.eco_def.specs.Named.{NamedDesign, joint_names, net_names, comp_names, pin_names, names_of}
 use Rattle.eco_def.specs.Sections.{AreOrdinary}
 use Rattle.eco_def.proofs.Designs.{ordinary_all, special_none}
-use Rattle.eco_base.specs.declared.fault.MoveFault.{MoveFault}
 use Rattle.eco_base.specs.declared.fault.MoveFault.TheVariants.{UnknownComponent, NotOnNet, UnknownNet}
 use Rattle.eco_base.specs.Moving.{has_comp, has_net, move_fault}
-use Rattle.eco_base.specs.Changes.{NewJoint, is_no_component, is_of, stays_on, pin_of, stands, has_statement}
-use Rattle.eco_base.specs.Issued.{Edit, kept_text}
+use Rattle.eco_base.specs.Changes.{NewJoint, is_no_component, is_of, stays_on, stands, has_statement}
+use Rattle.eco_base.specs.Issued.{Edit}
 use Rattle.eco_base.specs.Overlays.{moved_text, move_edits}
 use Rattle.eco_base.specs.PinMoves.{word_bytes, names_in, stands_in, names_net, names_comp}
 

@@ -3,7 +3,7 @@ use Rattle.std.specs.Prelude.{ℕ, nat_lt, Bool, true, false, not, ◌&&◌, ◌
 use Rattle.std.specs.List.{filter, list_all, list_any}
 use Rattle.std.specs.Str.{bytes_eq}
 use Rattle.std.specs.Fmt.{decimal}
-use Rattle.eco_def.specs.Named.{NamedJoint, NamedNet, NamedPin, NamedDesign}
+use Rattle.eco_def.specs.Named.{NamedJoint, NamedNet, NamedDesign}
 
 -- a pin of a component, and the net that it is put on
 pub record NewJoint : Type 0 where

@@ -3,7 +3,7 @@
 use Rattle.std.specs.Prelude.{◌≡◌, ℕ, ◌+◌, ◌≤◌, nat_lt, Bool, true, false, List, [], ◌∷◌, ◌++◌, length, map, drop, slice_range, Option, Some, None, if◌then◌else◌, codes}
 use Rattle.std.specs.List.{flat_map, list_all, filter}
 use Rattle.eco_text.specs.Words.{Token}
-use Rattle.eco_def.specs.Design.{Joint, Net, NetSection, Part, Passed, Units, Comps, Pins, Special, Nets, Design}
+use Rattle.eco_def.specs.Design.{Joint, Net, NetSection, Design}
 use Rattle.eco_def.specs.Named.{NamedJoint, NamedNet, NamedDesign, joint_names, names_of}
 use Rattle.eco_base.specs.Printing.{spaced}
 use Rattle.eco_base.specs.Changes.{NewJoint, Fresh, Changes, is_nil, changes_of}

@@ -1,10 +1,10 @@
 -- Moving one pin to another net.
-use Rattle.std.specs.Prelude.{◌≡◌, ℕ, Bool, true, false, not, ◌&&◌, ◌||◌, List, [], ◌∷◌, ◌++◌, map, Option, Some, None, Result, Ok, Err, if◌then◌else◌}
+use Rattle.std.specs.Prelude.{◌≡◌, ℕ, Bool, not, ◌&&◌, ◌||◌, List, [], ◌∷◌, ◌++◌, Option, Some, None, Result, Ok, Err, if◌then◌else◌}
 use Rattle.std.specs.List.{list_any}
 use Rattle.std.specs.Str.{bytes_eq}
 use Rattle.eco_def.specs.Design.{Design}
 use Rattle.eco_def.specs.Named.{NamedDesign, names_of}
-use Rattle.eco_base.specs.Changes.{NewJoint, is_no_component, is_of, stands, has_statement}
+use Rattle.eco_base.specs.Changes.{is_no_component, stands, has_statement}
 use Rattle.eco_base.specs.Issued.{Edit, IsOverlayOf}
 use Rattle.eco_base.specs.declared.fault.MoveFault.{MoveFault}
 use Rattle.eco_base.specs.declared.fault.MoveFault.TheVariants.{Memory, UnknownComponent, NotOnNet, UnknownNet}

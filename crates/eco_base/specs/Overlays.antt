@@ -1,13 +1,11 @@
 -- Edits that share one list of new bytes.
-use Rattle.std.specs.Prelude.{◌≡◌, ℕ, ◌≤◌, Bool, false, not, ◌&&◌, List, [], ◌∷◌, ◌++◌, length, slice_range, if◌then◌else◌}
-use Rattle.std.specs.List.{flat_map, list_all}
+use Rattle.std.specs.Prelude.{◌≡◌, ℕ, ◌≤◌, Bool, false, not, ◌&&◌, List, [], ◌∷◌, slice_range, if◌then◌else◌}
+use Rattle.std.specs.List.{list_all}
 use Rattle.std.specs.Str.{bytes_eq}
-use Rattle.eco_text.specs.Cursor.{token}
-use Rattle.eco_def.specs.declared.design.NetStatement.{NetStatement}
 use Rattle.eco_def.specs.declared.design.Design.{Design}
 use Rattle.eco_def.specs.Design as said
 use Rattle.eco_def.specs.Named.{joint_names}
-use Rattle.eco_def.specs.View.{net_in, design_in}
+use Rattle.eco_def.specs.View.{design_in}
 use Rattle.eco_base.specs.declared.stretch.Stretch.{Stretch}
 use Rattle.eco_base.specs.Changes.{NewJoint, stays_on, pin_of}
 use Rattle.eco_base.specs.Issued.{Edit, statement_text, IsOverlayOf}

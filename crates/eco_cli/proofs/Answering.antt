@@ -1,5 +1,5 @@
 -- What follows from the answer of a command line.
-use Rattle.std.proofs.Common.{◌≡◌, ℕ, ◌⊎◌, inl, inr, true, false, List, [], ◌∷◌, Option, Result, Ok, Err, codes, refl, sym, ◌∙◌, arith}
+use Rattle.std.proofs.Common.{◌<◌, ◌≡◌, ℕ, ◌⊎◌, inl, inr, true, false, List, [], ◌∷◌, Option, Result, Ok, Err, codes, refl, sym, ◌∙◌, arith}
 use Rattle.std.specs.Io.KnownBytes.{append_known}
 use Rattle.std.proofs.lemmas.Slice.Eq.{bytes_eq-Decides}
 use Rattle.eco_text.specs.Causes.{Rose}
@@ -8,6 +8,10 @@ use Rattle.eco_cli.specs.MoveCommand.{Told, Ends, Comes, IsRefusal}
 use Rattle.eco_cli.specs.Telling.{status_of, line_of, Tells}
 use Rattle.eco_cli.specs.declared.failure.Failure.{Failure}
 use Rattle.eco_cli.specs.declared.failure.Failure.TheVariants as failed
+
+-- an answer is one status alone
+one_status : (answer a b : ℕ) → answer ≡ a → answer ≡ b → a < b → ⊥
+one_status answer a b first second less = omega arith
 
 -- a line with a reading has no bad word
 no_bad : (table ws : List (List ℕ)) (n : ℕ) → HasReading table ws → IsFirstBad table ws n → ⊥
@@ -50,8 +54,8 @@ done_ends h old new words before after (Err failed.Memory) is comes told = cc
 pub done_answers : {T I O : Type 0} (h : Told T I O) (old new : T) (words : List (List ℕ)) (before after : Option (List ℕ)) (f f' : ℕ) (r : Result ℕ Failure) (answer : ℕ) →
     Comes h old new words r → Tells before after f f' (line_of r) (status_of r) answer → answer ≡ 0 → (n : ℕ) × Comes h old new words (Ok n) × (after ≡ append_known before (line_of (Ok n)))
 done_answers h old new words before after f f' r answer comes (inl t) is = done_ends h old new words before after r (sym t.0 ∙ is) comes t.1
-done_answers h old new words before after f f' r answer comes (inr (inl t)) is = let apart : 0 ≡ 4 = sym is ∙ t.0 in absurd (omega arith)
-done_answers h old new words before after f f' r answer comes (inr (inr t)) is = let apart : 0 ≡ 6 = sym is ∙ t.0 in absurd (omega arith)
+done_answers h old new words before after f f' r answer comes (inr (inl t)) is = absurd (one_status answer 0 4 is t.0 (omega arith))
+done_answers h old new words before after f f' r answer comes (inr (inr t)) is = absurd (one_status answer 0 6 is t.0 (omega arith))
 
 refused_ends : {T I O : Type 0} (h : Told T I O) (old new : T) (words : List (List ℕ)) (before after : Option (List ℕ)) (r : Result ℕ Failure) → status_of r ≡ 1 → Comes h old new words r → after ≡ append_known before (line_of r) →
     (e : Failure) × IsRefusal e × Comes h old new words (Err e) × (after ≡ append_known before (line_of (Err e)))
@@ -67,8 +71,8 @@ refused_ends h old new words before after (Err failed.Memory) is comes told = cc
 pub refused_answers : {T I O : Type 0} (h : Told T I O) (old new : T) (words : List (List ℕ)) (before after : Option (List ℕ)) (f f' : ℕ) (r : Result ℕ Failure) (answer : ℕ) →
     Comes h old new words r → Tells before after f f' (line_of r) (status_of r) answer → answer ≡ 1 → (e : Failure) × IsRefusal e × Comes h old new words (Err e) × (after ≡ append_known before (line_of (Err e)))
 refused_answers h old new words before after f f' r answer comes (inl t) is = refused_ends h old new words before after r (sym t.0 ∙ is) comes t.1
-refused_answers h old new words before after f f' r answer comes (inr (inl t)) is = let apart : 1 ≡ 4 = sym is ∙ t.0 in absurd (omega arith)
-refused_answers h old new words before after f f' r answer comes (inr (inr t)) is = let apart : 1 ≡ 6 = sym is ∙ t.0 in absurd (omega arith)
+refused_answers h old new words before after f f' r answer comes (inr (inl t)) is = absurd (one_status answer 1 4 is t.0 (omega arith))
+refused_answers h old new words before after f f' r answer comes (inr (inr t)) is = absurd (one_status answer 1 6 is t.0 (omega arith))
 
 words_end : {T I O : Type 0} (h : Told T I O) (old new : T) (words : List (List ℕ)) (before after : Option (List ℕ)) (r : Result ℕ Failure) → status_of r ≡ 2 → Comes h old new words r → after ≡ append_known before (line_of r) →
     (n : ℕ) × Comes h old new words (Err (failed.Words n)) × (after ≡ append_known before (line_of (Err (failed.Words n))))
@@ -84,8 +88,8 @@ words_end h old new words before after (Err failed.Memory) is comes told = cc
 pub words_answer : {T I O : Type 0} (h : Told T I O) (old new : T) (words : List (List ℕ)) (before after : Option (List ℕ)) (f f' : ℕ) (r : Result ℕ Failure) (answer : ℕ) →
     Comes h old new words r → Tells before after f f' (line_of r) (status_of r) answer → answer ≡ 2 → (n : ℕ) × Comes h old new words (Err (failed.Words n)) × (after ≡ append_known before (line_of (Err (failed.Words n))))
 words_answer h old new words before after f f' r answer comes (inl t) is = words_end h old new words before after r (sym t.0 ∙ is) comes t.1
-words_answer h old new words before after f f' r answer comes (inr (inl t)) is = let apart : 2 ≡ 4 = sym is ∙ t.0 in absurd (omega arith)
-words_answer h old new words before after f f' r answer comes (inr (inr t)) is = let apart : 2 ≡ 6 = sym is ∙ t.0 in absurd (omega arith)
+words_answer h old new words before after f f' r answer comes (inr (inl t)) is = absurd (one_status answer 2 4 is t.0 (omega arith))
+words_answer h old new words before after f f' r answer comes (inr (inr t)) is = absurd (one_status answer 2 6 is t.0 (omega arith))
 
 read_ends : {T I O : Type 0} (h : Told T I O) (old new : T) (words : List (List ℕ)) (r : Result ℕ Failure) → status_of r ≡ 3 → Comes h old new words r → Comes h old new words (Err failed.Read)
 read_ends h old new words (Ok n) is comes = cc
@@ -103,8 +107,8 @@ read_rose h old new m ends = elim ends.1 [ inl first ↦ first.1 | inr second �
 pub read_answers : {T I O : Type 0} (h : Told T I O) (old new : T) (words : List (List ℕ)) (before after : Option (List ℕ)) (f f' : ℕ) (r : Result ℕ Failure) (answer : ℕ) →
     Comes h old new words r → Tells before after f f' (line_of r) (status_of r) answer → answer ≡ 3 → Rose (h.refused old) (h.refused new) ⊎ Rose (h.read_faults old) (h.read_faults new)
 read_answers h old new words before after f f' r answer comes (inl t) is = let c = read_ends h old new words r (sym t.0 ∙ is) comes in read_rose h old new c.0 c.2
-read_answers h old new words before after f f' r answer comes (inr (inl t)) is = let apart : 3 ≡ 4 = sym is ∙ t.0 in absurd (omega arith)
-read_answers h old new words before after f f' r answer comes (inr (inr t)) is = let apart : 3 ≡ 6 = sym is ∙ t.0 in absurd (omega arith)
+read_answers h old new words before after f f' r answer comes (inr (inl t)) is = absurd (one_status answer 3 4 is t.0 (omega arith))
+read_answers h old new words before after f f' r answer comes (inr (inr t)) is = absurd (one_status answer 3 6 is t.0 (omega arith))
 
 write_ends : {T I O : Type 0} (h : Told T I O) (old new : T) (words : List (List ℕ)) (r : Result ℕ Failure) → status_of r ≡ 4 → Comes h old new words r → Rose (h.write_faults old) (h.write_faults new)
 write_ends h old new words (Ok n) is comes = cc
@@ -120,4 +124,4 @@ pub write_answers : {T I O : Type 0} (h : Told T I O) (old new : T) (words : Lis
     Comes h old new words r → Tells before after f f' (line_of r) (status_of r) answer → answer ≡ 4 → Rose (h.write_faults old) (h.write_faults new) ⊎ Rose f f'
 write_answers h old new words before after f f' r answer comes (inl t) is = inl (write_ends h old new words r (sym t.0 ∙ is) comes)
 write_answers h old new words before after f f' r answer comes (inr (inl t)) is = inr t.2
-write_answers h old new words before after f f' r answer comes (inr (inr t)) is = let apart : 4 ≡ 6 = sym is ∙ t.0 in absurd (omega arith)
+write_answers h old new words before after f f' r answer comes (inr (inr t)) is = absurd (one_status answer 4 6 is t.0 (omega arith))

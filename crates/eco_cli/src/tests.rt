@@ -214,12 +214,22 @@ fn lines_that_do_nothing(rt: HostRuntime) -> Result<(), Fail> {
         assert_eq!(rt; answer.printed.as_str(), printed);
         assert!(rt; answer.outputs.is_empty());
     }
-    let with_pins = TEXT.replace(
+    let whole = TEXT.replace(
         rt.alloc(),
         "NETS 6 ;",
-        "PINS 1 ; - a + NET a ; END PINS NETS 6 ;",
+        "PINS 4 ;
+- a + NET a + DIRECTION INPUT + USE SIGNAL ;
+- b + NET b + DIRECTION INPUT + USE SIGNAL ;
+- ck + NET ck + DIRECTION INPUT + USE CLOCK ;
+- q + NET q + DIRECTION OUTPUT + USE SIGNAL ;
+END PINS
+SPECIALNETS 2 ;
+- VDD ( * VDD ) + USE POWER ;
+- VSS ( * VSS ) ( SP_1 A ) ( SP_1 B ) ( SP_2 A ) ( SP_2 B ) ( SP_3 A ) ( SP_3 B ) ( SP_3 C ) + USE GROUND ;
+END SPECIALNETS
+NETS 6 ;",
     )?;
-    for text in ["", with_pins.as_str(), "DESIGN top ;"] {
+    for text in ["", whole.as_str(), "DESIGN top ;"] {
         let answer = run_line(rt.alloc(), &line_of(rt.alloc())?, text, NONE)?;
         assert_eq!(rt; answer.status, 1);
         assert_eq!(rt; answer.printed.as_str(), "eco: def NotYet\n");

@@ -5,3 +5,4 @@ pub mod WalkSteps
 pub mod Streaming
 pub mod DigitSteps
 pub mod Sequence
+mod Examples

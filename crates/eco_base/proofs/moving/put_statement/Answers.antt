@@ -1,4 +1,4 @@
-use Rattle.std.proofs.Common.{◌++◌, [], ◌∷◌, ap, sym, ◌∙◌, append_assoc, append-nil, if◌then◌else◌, false, codes}
+use Rattle.std.proofs.Common.{◌++◌, [], ◌∷◌, ap, sym, ◌∙◌, append_assoc, if◌then◌else◌, false, codes}
 use Rattle.std.specs.List.{flat_map}
 use Rattle.eco_def.specs.View.{joint_in, net_in}
 use Rattle.eco_base.specs.Printing.{spaced}

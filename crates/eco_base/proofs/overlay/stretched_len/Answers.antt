@@ -1,4 +1,4 @@
-use Rattle.std.proofs.Common.{◌+◌, ◌-◌, arith, length, get_or}
+use Rattle.std.proofs.Common.{arith, length, get_or}
 use Rattle.eco_base.specs.declared.stretch.Stretch.{Stretch}
 use Rattle.eco_base.specs.Issued.{edited}
 use Rattle.eco_base.specs.Overlays.{edits_of}

@@ -1,7 +1,6 @@
-use Rattle.std.proofs.Common.{rules, ◌≡◌, ◌++◌, [], ◌∷◌, ap, sym, ◌∙◌, arith, length}
+use Rattle.std.proofs.Common.{◌≡◌, ◌++◌, [], ◌∷◌, ap, ◌∙◌, arith, length}
 use Rattle.std.proofs.lemmas.Grind.{common_steps}
 use Rattle.eco_base.specs.declared.stretch.Stretch.{Stretch}
-use Rattle.eco_base.specs.Overlays.{edits_of}
 use Rattle.eco_base.proofs.Stretches.{push_stretch}
 use Rattle.eco_base.proofs.overlay.Overlay.add.Goals as goal
 
