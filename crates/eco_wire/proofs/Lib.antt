@@ -1,0 +1,4 @@
+pub mod Feeds
+pub mod Items
+pub mod Lengths
+pub mod Lists
