@@ -1,3 +1,6 @@
 pub mod Lines
 pub mod Heads
 pub mod Requests
+pub mod Routes
+pub mod Table
+pub mod Numbers

@@ -1,11 +1,10 @@
 -- Header lines by name (RFC 9110, section 5; RFC 9112, sections 6 and 9.6).
-use Rattle.std.specs.Prelude.{◌≡◌, ℕ, ◌+◌, ◌<◌, take, drop, Bool, ◌&&◌, nat_lt, nat_le, List, [], ◌∷◌, map, length, filter, Option, Some, None, codes, if◌then◌else◌, ◌==◌}
-use Rattle.std.specs.Char.{is_ascii_digit}
-use Rattle.std.specs.List.{list_all, list_any, slice_split}
+use Rattle.std.specs.Prelude.{◌≡◌, ℕ, ◌+◌, ◌<◌, take, drop, Bool, List, [], ◌∷◌, map, length, filter, Option, Some, None, codes, ◌==◌}
+use Rattle.std.specs.List.{list_any, slice_split}
 use Rattle.std.specs.Str.{str_eq_ignore_ascii_case}
-use Rattle.std.specs.Str.Parse.{digits_value}
 use Rattle.httparse.specs.Grammar.{trim_ows}
 use Rattle.httparse.specs.Ascii.{comma}
+use Rattle.eco_wire.specs.Numbers.{number_of_digits}
 use Rattle.eco_wire.specs.declared.fields.ContentLength.{ContentLength}
 use Rattle.eco_wire.specs.declared.fields.ContentLength.TheVariants.{Missing, Bytes, Unreadable}
 
@@ -25,12 +24,6 @@ has_line name lines = list_any (is_named name) lines
 abbrev pub values_of : List ℕ → List Line → List (List ℕ)
 values_of name lines = map (λ line. line.1) (filter (is_named name) lines)
 
--- the number that 1 to 20 digits write
-abbrev pub length_of : List ℕ → Option ℕ
-length_of text =
-    if nat_lt 0 (length text) && nat_le (length text) 20 && list_all is_ascii_digit text
-    then Some (digits_value 10 text) else None
-
 -- what one value says
 abbrev pub stated_by : Option ℕ → ContentLength
 stated_by (Some n) = Bytes n
@@ -39,7 +32,7 @@ stated_by None = Unreadable
 -- what the values of the Content-Length lines say: there is one at most, of 1 to 20 digits
 abbrev pub content_length_of : List (List ℕ) → ContentLength
 content_length_of [] = Missing
-content_length_of (text ∷ []) = stated_by (length_of text)
+content_length_of (text ∷ []) = stated_by (number_of_digits text)
 content_length_of (_ ∷ _ ∷ _) = Unreadable
 
 -- an item of a list is the word `close`, in any case of letters and with white space around it

@@ -4,12 +4,10 @@ ghost use Rattle.std.specs.Prelude.{◌≡◌, ◌==◌, map, length, reverse, p
 ghost use Rattle.httparse.specs.Ascii.{comma};
 ghost use Rattle.httparse.specs.Grammar.{skip_ows};
 ghost use Rattle.httparse.specs.Spans.{IsHeaderWithin, header_bytes};
-ghost use Rattle.eco_wire.specs.Lines.{is_named, has_line, values_of, content_length_of, length_of, EndsAt, is_close, lists_close, asks_to_close};
+ghost use Rattle.eco_wire.specs.Lines.{is_named, has_line, values_of, content_length_of, EndsAt, is_close, lists_close, asks_to_close};
 
+use crate::numbers::read_digits;
 use httparse::spans::HeaderSpan;
-
-/// The longest text that is read as a length.
-const LENGTH_DIGITS: usize = 20;
 
 /// What the Content-Length lines of a head say.
 #[derive(Clone, Copy, Debug, PartialEq, Eq)]
@@ -41,23 +39,6 @@ pub(crate) fn has_line(bytes: &[u8], fields: &[HeaderSpan], name: &[u8]) -> bool
     false
 }
 
-/// The number that 1 to 20 digits write.
-fn read_length(text: &[u8]) -> Option<u128>
-    ensures { result ≡ length_of text.now }
-{
-    if text.is_empty() || LENGTH_DIGITS < text.len() {
-        return None;
-    }
-    let mut number: u128 = 0;
-    for digit in text {
-        if !digit.is_ascii_digit() {
-            return None;
-        }
-        number = number * 10 + u128::from(digit - b'0');
-    }
-    Some(number)
-}
-
 /// What the Content-Length lines say of the body.
 pub(crate) fn content_length(bytes: &[u8], fields: &[HeaderSpan]) -> ContentLength
     requires { All (IsHeaderWithin (length bytes.now)) fields.now }
@@ -66,7 +47,7 @@ pub(crate) fn content_length(bytes: &[u8], fields: &[HeaderSpan]) -> ContentLeng
     let mut stated = ContentLength::Missing;
     for field in fields {
         if is_named(bytes, field, b"content-length") {
-            stated = match (stated, read_length(field.value.of(bytes))) {
+            stated = match (stated, read_digits(field.value.of(bytes))) {
                 (ContentLength::Missing, Some(number)) => ContentLength::Bytes(number),
                 _ => return ContentLength::Unreadable,
             };

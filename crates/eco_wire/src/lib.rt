@@ -5,11 +5,18 @@
 #![tactic(auto)]
 
 mod fields;
+mod memory;
+mod numbers;
 mod reading;
 mod request;
+mod router;
+mod routes;
 
+pub use crate::memory::Memory;
 pub use crate::reading::next_request;
 pub use crate::request::{Method, Next, Request, Span};
+pub use crate::router::Router;
+pub use crate::routes::{Route, RouteFault};
 
 #[cfg(test)]
 mod tests;

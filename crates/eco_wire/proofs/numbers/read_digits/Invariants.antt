@@ -2,7 +2,7 @@ use Rattle.std.proofs.Common.{◌≡◌, ◌^◌, ◌<◌, drop}
 use Rattle.std.specs.Char.{is_ascii_digit}
 use Rattle.std.specs.List.{list_all}
 use Rattle.std.specs.Str.Parse.{digits_value, digits_value_after}
-use Rattle.eco_wire.proofs.fields.read_length.Given as goal
+use Rattle.eco_wire.proofs.numbers.read_digits.Given as goal
 
 -- the digits so far and those that are left write what all of them write
 abbrev pub invariant-loop-digit : goal.invariant-loop-digit
