@@ -8,12 +8,14 @@ mod fields;
 mod memory;
 mod numbers;
 mod reading;
+mod reply;
 mod request;
 mod router;
 mod routes;
 
 pub use crate::memory::Memory;
 pub use crate::reading::next_request;
+pub use crate::reply::{BodyKind, reply_head};
 pub use crate::request::{Method, Next, Request, Span};
 pub use crate::router::Router;
 pub use crate::routes::{Route, RouteFault};
