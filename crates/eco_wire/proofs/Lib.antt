@@ -5,4 +5,5 @@ pub mod Items
 pub mod Lengths
 pub mod Lists
 pub mod Seeking
+pub mod Streaming
 pub mod Strips

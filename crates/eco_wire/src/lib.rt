@@ -12,6 +12,7 @@ mod reply;
 mod request;
 mod router;
 mod routes;
+mod stream;
 
 pub use crate::memory::Memory;
 pub use crate::reading::next_request;
@@ -19,6 +20,7 @@ pub use crate::reply::{BodyKind, reply_head};
 pub use crate::request::{Method, Next, Request, Span};
 pub use crate::router::Router;
 pub use crate::routes::{Route, RouteFault};
+pub use crate::stream::{links_read_streams, pieces_dont_matter, readings_are_one, readings_stay};
 
 #[cfg(test)]
 mod tests;
