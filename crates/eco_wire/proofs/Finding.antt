@@ -22,7 +22,7 @@ pub not_found : (rows : RowsOf (RouteOf Pattern)) (path : List ℕ) → AreBytes
 not_found rows path bytes is missing route has =
     let found = (finds route path (below path bytes) has.form).0 in
     let none : found_at path ≡ None =
-        ap (option_map (λ (r : RouteOf Pattern). r.value)) (ap (λ rs. first rs path) (sym is) ∙ missing) in
+    ap (option_map (λ (r : RouteOf Pattern). r.value)) (ap (λ rs. first rs path) (sym is) ∙ missing) in
     let clash : Some (pattern_of route) ≡ None = sym found ∙ none in
     cc
 
@@ -35,6 +35,6 @@ read_found rows path row (Some route) bytes text is found reads = record { text 
 read_found rows path row None bytes text is found reads = λ route has.
     let both = finds route path (below path bytes) has.form in
     let value : Some row.value ≡ Some (pattern_of route) =
-        sym (ap (option_map (λ (r : RouteOf Pattern). r.value)) (ap (λ rs. first rs path) (sym is) ∙ found)) ∙ both.0 in
+    sym (ap (option_map (λ (r : RouteOf Pattern). r.value)) (ap (λ rs. first rs path) (sym is) ∙ found)) ∙ both.0 in
     let same : pattern_of route ≡ row.value = cc in
     reads (subst (λ p. HasForm p path) same both.1)

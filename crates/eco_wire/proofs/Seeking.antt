@@ -1,5 +1,5 @@
 -- What `matchit` finds in the table of routes, for each path of the table.
-use Rattle.std.proofs.Common.{◌≡◌, ◌≢◌, ℕ, zero, suc, ◌+◌, ◌-◌, ◌<◌, ◌^◌, Bool, true, false, cond, ◌==◌, ltb, ◌&&◌, List, [], ◌∷◌, ◌++◌, length, length-append, drop, get_or, Option, Some, None, refl, sym, ap, ◌∙◌, arith, subst}
+use Rattle.std.proofs.Common.{◌≡◌, ◌≢◌, ℕ, zero, suc, ◌-◌, ◌<◌, ◌^◌, Bool, true, false, cond, ltb, ◌&&◌, List, [], ◌∷◌, ◌++◌, length, length-append, drop, get_or, Option, Some, None, refl, ap, ◌∙◌, arith, subst}
 use Rattle.std.specs.Prelude.{All, codes, decimal, option_map, nat_eq}
 use Rattle.std.specs.Char.{is_ascii_digit}
 use Rattle.std.specs.List.{ends_with}
@@ -42,8 +42,10 @@ slash_longest name some =
   where
     seg : List ℕ
     seg = name ++ slash ∷ []
+
     ends : Bool
     ends = ends_with nat_eq seg (slash ∷ [])
+
     at_end : ends ≡ true
     at_end =
         ap (pointwise nat_eq (slash ∷ []))
@@ -131,6 +133,7 @@ module _ {K : Type 0} where
     where
       rows : RowsOf K
       rows = (slash ∷ rest, k) ∷ []
+
       pick : List ℕ → List ℕ → ℕ × RowsOf K
       pick seg suffix =
           cond (ltb 0 (length suffix)) (length seg - length suffix, with_suffix suffix rows)

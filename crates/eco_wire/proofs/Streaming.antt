@@ -1,6 +1,6 @@
 -- Readings of longer bytes, and the streams that links read.
-use Rattle.std.proofs.Common.{◌≡◌, ℕ, ◌+◌, ◌-◌, ◌<◌, ◌≤◌, ◌⊎◌, ⊎_elim, inl, inr, Bool, true, false, ◌==◌, nat_lt, List, [], ◌∷◌, ◌++◌, length, take, drop, length-append, append_assoc, append-nil, refl, sym, ap, ◌∙◌, subst, arith, ltb-true, Option, Some, None}
-use Rattle.std.specs.Prelude.{if◌then◌else◌, codes, count_by, MatchOption, ⊤}
+use Rattle.std.proofs.Common.{◌≡◌, ℕ, ◌+◌, ◌-◌, ◌<◌, ◌≤◌, ⊎_elim, inl, inr, Bool, true, false, nat_lt, List, [], ◌∷◌, ◌++◌, length, take, drop, length-append, append_assoc, append-nil, refl, sym, ap, ◌∙◌, subst, arith, ltb-true, Option, Some, None}
+use Rattle.std.specs.Prelude.{if◌then◌else◌, codes, MatchOption, ⊤}
 use Rattle.std.specs.List.{concat}
 use Rattle.std.proofs.lemmas.Bool.{ltb-false, false_from_ne_true}
 use Rattle.std.proofs.lemmas.List.{take-append-le, drop-append-le, take-append-drop}
@@ -8,13 +8,13 @@ use Rattle.std.proofs.Math.Seq.{take-length}
 use Rattle.httparse.specs.Grammar.{RequestHead, print_request, ReadsRequest, NeverHasRequest}
 use Rattle.httparse.specs.Spans.{RequestOverflows}
 use Rattle.httparse.proofs.GrammarLemmas.{ReadsRequest-append, request_unique}
-use Rattle.eco_wire.specs.Lines.{has_line, values_of, content_length_of}
-use Rattle.eco_wire.specs.Heads.{Head, Message, Reading, unfinished, whole, broken, head_of, method_of, is_post, closes, with_body, with_length, answer_to}
-use Rattle.eco_wire.specs.Requests.{BeginsWith, HasNoHead, HasTooManyLines, GivesUp, Headless, IsNext}
+use Rattle.eco_wire.specs.Lines.{values_of, content_length_of}
+use Rattle.eco_wire.specs.Heads.{Head, Message, Reading, unfinished, whole, broken, head_of, method_of, closes, with_body, with_length, answer_to}
+use Rattle.eco_wire.specs.Requests.{BeginsWith, HasNoHead, GivesUp, Headless, IsNext}
 use Rattle.eco_wire.specs.Streams.{IsSettled, IsNoRequest, End, ended, closed, refused, full, end_after, Stops, IsStream, Takes, StopsAt, IsLink, IsHeadStatus, EndAlike, ReadingsStay, ReadingsAreOne, LinksReadStreams, PiecesDontMatter}
 use Rattle.eco_wire.specs.declared.fields.ContentLength.{ContentLength}
 use Rattle.eco_wire.specs.declared.fields.ContentLength.TheVariants.{Missing, Bytes, Unreadable}
-use Rattle.eco_wire.proofs.Feeds.{feeds, feeds-append}
+use Rattle.eco_wire.proofs.Feeds.{feeds-append}
 
 -- ---- the answer to a whole head
 
@@ -112,7 +112,7 @@ overflows_no_head bytes more over h behind begins =
 front_of : (xs ys p q : List ℕ) → xs ++ ys ≡ p ++ q → length p ≤ length xs → xs ≡ p ++ drop (length p) xs
 front_of xs ys p q same within =
     let front : take (length p) xs ≡ p =
-        sym (take-append-le (length p) xs ys within) ∙ (ap (take (length p)) same ∙ (take-append-le (length p) p q (omega arith) ∙ take-length p)) in
+    sym (take-append-le (length p) xs ys within) ∙ (ap (take (length p)) same ∙ (take-append-le (length p) p q (omega arith) ∙ take-length p)) in
     sym (take-append-drop (length p) xs) ∙ ap (λ t. t ++ drop (length p) xs) front
 
 long_no_head : (bytes more : List ℕ) → 16384 ≤ length bytes → HasNoHead bytes → HasNoHead (bytes ++ more)
@@ -130,10 +130,13 @@ gives_up_stays : (bytes more : List ℕ) (status : ℕ) → HasNoHead bytes → 
 gives_up_stays bytes more status none (inl (is, never)) = (never_no_head bytes more never, inl (is, never_stays bytes more never))
 gives_up_stays bytes more status none (inr (is, inl lines)) = (
   overflows_no_head bytes more lines.overflows,
-  inr (is, inl (record {
-    feeds = omega (arith, lines.feeds, feeds-append bytes more);
-    overflows = overflows_stay bytes more lines.overflows;
-  })),
+  inr (
+    is,
+    inl (record {
+      feeds = omega (arith, lines.feeds, feeds-append bytes more);
+      overflows = overflows_stay bytes more lines.overflows;
+    }),
+  ),
 )
 gives_up_stays bytes more status none (inr (is, inr long)) = (
   long_no_head bytes more long none,
@@ -205,7 +208,7 @@ coded_within h false behind = with_length_within h (content_length_of (values_of
 pub used_within : (bytes : List ℕ) (m : Message) → IsNext bytes (whole m) → m.used ≤ length bytes
 used_within bytes m (inl (h, behind, begins, is)) =
     let size : length bytes ≡ length (print_request h) + length behind =
-        ap length begins.reads.1 ∙ length-append (print_request h) behind in
+    ap length begins.reads.1 ∙ length-append (print_request h) behind in
     let most = length (print_request h) + length behind in
     let within : m.used ≤ most = subst (UsesWithin most) (sym is) (coded_within (head_of h) _ behind) in
     omega arith
@@ -238,9 +241,9 @@ link_stream room held pieces [] end (kept, rest, takes, stop) =
     subst (λ b. Stops b end) (sym (taken held pieces kept rest takes)) (stop_stays kept rest end stop)
 link_stream room held pieces (m ∷ ms) end (kept, rest, takes, next, later) =
     let behind : drop m.used kept ++ concat rest ≡ drop m.used (kept ++ concat rest) =
-        sym (drop-append-le m.used kept (concat rest) (used_within kept m next)) in
+    sym (drop-append-le m.used kept (concat rest) (used_within kept m next)) in
     let on : IsLink (room - 1) (drop m.used kept) rest ms end → IsStream (room - 1) (drop m.used (kept ++ concat rest)) ms end =
-        λ link. subst (λ b. IsStream (room - 1) b ms end) behind (link_stream (room - 1) (drop m.used kept) rest ms end link) in
+    λ link. subst (λ b. IsStream (room - 1) b ms end) behind (link_stream (room - 1) (drop m.used kept) rest ms end link) in
     subst (λ b. IsStream room b (m ∷ ms) end) (sym (taken held pieces kept rest takes)) (
       readings_stay kept (concat rest) (whole m) tt next,
       on_none (λ last. (ms ≡ []) × (end ≡ last)) (end_after room m) on later,
@@ -298,7 +301,7 @@ one_stream room bytes (m ∷ ms) (n ∷ ns) a b (next, later) (other, after) =
     let same = same_message bytes m n next other in
     let after_m = subst (λ x. MatchOption (end_after room x) (IsStream (room - 1) (drop x.used bytes) ns b) (λ last. (ns ≡ []) × (b ≡ last))) (sym same) after in
     let rest : (ms ≡ ns) × EndAlike a b =
-        on_both (end_after room m) (one_stream (room - 1) (drop m.used bytes) ms ns a b) later after_m in
+    on_both (end_after room m) (one_stream (room - 1) (drop m.used bytes) ms ns a b) later after_m in
     (cc, rest.1)
   where
     on_both : {A B : Type 0} (e : Option End) → (A → B → (ms ≡ ns) × EndAlike a b)

@@ -1,5 +1,5 @@
 -- The table of routes.
-use Rattle.std.specs.Prelude.{◌≡◌, ◌≢◌, ℕ, ◌<◌, ◌^◌, List, ◌++◌, length, All, codes, decimal, IsUtf8, Result, Ok, Err}
+use Rattle.std.specs.Prelude.{◌≡◌, ◌≢◌, ℕ, ◌<◌, ◌^◌, List, ◌++◌, length, All, codes, decimal, IsUtf8, slice_index, Result, Ok, Err}
 use Rattle.eco_wire.specs.declared.request.Method.{Method}
 use Rattle.eco_wire.specs.declared.request.Method.TheVariants.{Get, Post}
 use Rattle.eco_wire.specs.declared.routes.Route.{Route}
@@ -50,3 +50,8 @@ Routes method path (Err NoPath) = (route : Route) → ¬ (HasPath route path)
 Routes method path (Err (WrongMethod allow)) =
     (route : Route) × HasPath route path × (allow ≡ method_for route) × (method ≢ allow)
 Routes method path (Err Memory) = ⊥
+
+-- a path of bytes has one route at most
+abbrev pub RoutesAreOne : Type 0
+RoutesAreOne =
+    (path : List ℕ) (a b : Route) → ((i : ℕ) → slice_index path i < 256) → HasPath a path → HasPath b path → a ≡ b

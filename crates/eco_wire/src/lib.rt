@@ -18,7 +18,7 @@ pub use crate::memory::Memory;
 pub use crate::reading::next_request;
 pub use crate::reply::{BodyKind, reply_head};
 pub use crate::request::{Method, Next, Request, Span};
-pub use crate::router::Router;
+pub use crate::router::{Router, routes_are_one};
 pub use crate::routes::{Route, RouteFault};
 pub use crate::stream::{links_read_streams, pieces_dont_matter, readings_are_one, readings_stay};
 

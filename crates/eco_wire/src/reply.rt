@@ -60,8 +60,7 @@ fn format_lines(
 ) -> Result<String, AllocError>
     ensures { IfOk result (λ lines. string_bytes lines ≡ common_lines_of status phrase.now media.now len) }
 {
-    format!(
-        in alloc;
+    format!(in alloc;
         "HTTP/1.1 {status} {phrase}\r\nContent-Type: {media}\r\nContent-Length: {len}\r\n"
     )
 }

@@ -1,9 +1,9 @@
 //! The route of a path, by `matchit`.
 
-ghost use Rattle.std.specs.Prelude.{◌≡◌, true, false, OnOk, MatchOption};
+ghost use Rattle.std.specs.Prelude.{◌≡◌, true, false, IfOk, OnOk, MatchOption};
 ghost use Rattle.matchit.specs.Route.{parse_route};
 ghost use Rattle.eco_wire.specs.Table.{table, with_route, HasForm};
-ghost use Rattle.eco_wire.specs.Routes.{IsPathOf, IsSegment};
+ghost use Rattle.eco_wire.specs.Routes.{IsPathOf, IsSegment, RoutesAreOne};
 
 use crate::memory::Memory;
 use crate::numbers::read_number;
@@ -19,11 +19,7 @@ pub struct Router {
     ghost rows: { patterns ≡ table },
 }
 
-fn add(
-    patterns: &mut matchit::Router<Pattern>,
-    path: &str,
-    pattern: Pattern,
-) -> Result<(), Memory>
+fn add(patterns: &mut matchit::Router<Pattern>, path: &str, pattern: Pattern) -> Result<(), Memory>
     ensures { OnOk result (patterns.new ≡ with_route (parse_route path.now) pattern patterns.old) }
 {
     patterns.insert(path, pattern).map_err(|_| Memory)
@@ -53,7 +49,7 @@ fn read_revision(path: &[u8]) -> Option<Route>
     Some(Route::Revision(read_number(digits)?))
 }
 
-/// The route of a path that has this form.
+/// The route of a path for which `matchit` found this form. What the path holds is read from the path itself.
 fn read_path(pattern: Pattern, path: &[u8]) -> Option<Route>
     ensures { MatchOption result (¬ (HasForm pattern path.now)) (λ route. IsPathOf route path.now) }
 {
@@ -75,7 +71,9 @@ impl Router {
     ghost use Rattle.eco_wire.specs.Routes.{Routes, HasPath};
 
     /// The router of the table.
-    pub fn new(alloc: Global) -> Result<Router, Memory> {
+    pub fn new(alloc: Global) -> Result<Router, Memory>
+        ensures { IfOk result (λ router. router.patterns ≡ table) }
+    {
         let mut patterns = matchit::Router::new(alloc);
         add(&mut patterns, "/front", Pattern::Front)?;
         add(&mut patterns, "/spares", Pattern::Spares)?;
@@ -102,12 +100,7 @@ impl Router {
     }
 
     /// The route of a request. It takes no memory today, so it never answers `Memory`.
-    pub fn route(
-        &self,
-        _alloc: Global,
-        method: &Method,
-        path: &[u8],
-    ) -> Result<Route, RouteFault>
+    pub fn route(&self, _alloc: Global, method: &Method, path: &[u8]) -> Result<Route, RouteFault>
         ensures { Routes method.now path.now result }
     {
         let Some(route) = self.find(path) else {
@@ -121,3 +114,8 @@ impl Router {
         }
     }
 }
+
+/// A law of the table: a path has one route at most.
+pub fn routes_are_one()
+    ensures { RoutesAreOne }
+{}

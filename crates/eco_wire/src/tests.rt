@@ -1,4 +1,6 @@
-use crate::{Method, Next, Request, Span, next_request};
+use crate::{
+    BodyKind, Method, Next, Request, Route, RouteFault, Router, Span, next_request, reply_head,
+};
 use std::alloc::Global;
 use std::test::Fail;
 
@@ -158,5 +160,132 @@ fn a_request_comes_with_its_last_byte_and_stays_with_more(rt: HostRuntime) -> Re
     longer.push_str(text)?;
     longer.push_str("GET / HTTP/1.1\r\n\r\n")?;
     assert_eq!(rt; next_request(longer.as_bytes()), wanted);
+    Ok(())
+}
+
+#[test]
+fn paths_have_the_routes_of_the_table(rt: HostRuntime) -> Result<(), Fail> {
+    let router = Router::new(rt.alloc())?;
+    let name = |len| Ok(Route::Order(Span { start: 8, len }));
+    let wrong = |allow| Err(RouteFault::WrongMethod { allow });
+    let cases: [(Method, &[u8], Result<Route, RouteFault>); 30] = [
+        (Method::Get, b"/front", Ok(Route::Front)),
+        (Method::Get, b"/spares", Ok(Route::Spares)),
+        (Method::Get, b"/orders/inv1", name(4)),
+        (Method::Get, b"/orders/a%2Fb", name(5)),
+        (Method::Get, b"/revision/0/def", Ok(Route::Revision(0))),
+        (
+            Method::Get,
+            b"/revision/8192/def",
+            Ok(Route::Revision(8192)),
+        ),
+        (
+            Method::Get,
+            b"/revision/18446744073709551615/def",
+            Ok(Route::Revision(u64::MAX)),
+        ),
+        (Method::Post, b"/plan", Ok(Route::Plan)),
+        (Method::Post, b"/commit", Ok(Route::Commit)),
+        (Method::Post, b"/withdraw", Ok(Route::Withdraw)),
+        (Method::Post, b"/hold", Ok(Route::Hold)),
+        (Method::Post, b"/release", Ok(Route::Release)),
+        (Method::Post, b"/front", wrong(Method::Get)),
+        (Method::Other, b"/front", wrong(Method::Get)),
+        (Method::Post, b"/orders/inv1", wrong(Method::Get)),
+        (Method::Get, b"/hold", wrong(Method::Post)),
+        (Method::Get, b"/none", Err(RouteFault::NoPath)),
+        (Method::Get, b"/", Err(RouteFault::NoPath)),
+        (Method::Get, b"/front/", Err(RouteFault::NoPath)),
+        (Method::Get, b"/front?x", Err(RouteFault::NoPath)),
+        (Method::Get, b"http://h/front", Err(RouteFault::NoPath)),
+        (Method::Get, b"/orders/", Err(RouteFault::NoPath)),
+        (Method::Get, b"/orders/a/b", Err(RouteFault::NoPath)),
+        (Method::Get, b"/orders/\xff", Err(RouteFault::NoPath)),
+        (Method::Get, b"/revision//def", Err(RouteFault::NoPath)),
+        (Method::Get, b"/revision/01/def", Err(RouteFault::NoPath)),
+        (Method::Get, b"/revision/+1/def", Err(RouteFault::NoPath)),
+        (
+            Method::Get,
+            b"/revision/18446744073709551616/def",
+            Err(RouteFault::NoPath),
+        ),
+        (Method::Post, b"/revision/x/def", Err(RouteFault::NoPath)),
+        (Method::Get, b"/revision/1", Err(RouteFault::NoPath)),
+    ];
+    for (method, path, wanted) in cases {
+        assert_eq!(rt; router.route(rt.alloc(), &method, path), wanted);
+    }
+    Ok(())
+}
+
+#[test]
+fn reply_heads_have_status_type_length_allow_and_close(rt: HostRuntime) -> Result<(), Fail> {
+    let alloc = rt.alloc();
+    let front = reply_head(alloc, 200, BodyKind::Json, 11, None, false)?;
+    assert_eq!(rt;
+        front.as_slice(),
+        b"HTTP/1.1 200 OK\r\nContent-Type: application/json\r\nContent-Length: 11\r\n\r\n".as_slice()
+    );
+    let last = reply_head(alloc, 200, BodyKind::Plain, u64::MAX, None, true)?;
+    assert_eq!(rt;
+        last.as_slice(),
+        b"HTTP/1.1 200 OK\r\nContent-Type: text/plain\r\nContent-Length: 18446744073709551615\r\nConnection: close\r\n\r\n".as_slice()
+    );
+    let wrong = reply_head(alloc, 405, BodyKind::Json, 13, Some("GET"), false)?;
+    assert_eq!(rt;
+        wrong.as_slice(),
+        b"HTTP/1.1 405 Method Not Allowed\r\nContent-Type: application/json\r\nContent-Length: 13\r\nAllow: GET\r\n\r\n".as_slice()
+    );
+    Ok(())
+}
+
+#[test]
+fn each_status_has_its_phrase(rt: HostRuntime) -> Result<(), Fail> {
+    let alloc = rt.alloc();
+    let cases = [
+        (
+            reply_head(alloc, 400, BodyKind::Json, 0, None, false)?,
+            "HTTP/1.1 400 Bad Request\r\n",
+        ),
+        (
+            reply_head(alloc, 404, BodyKind::Json, 0, None, false)?,
+            "HTTP/1.1 404 Not Found\r\n",
+        ),
+        (
+            reply_head(alloc, 409, BodyKind::Json, 0, None, false)?,
+            "HTTP/1.1 409 Conflict\r\n",
+        ),
+        (
+            reply_head(alloc, 411, BodyKind::Json, 0, None, false)?,
+            "HTTP/1.1 411 Length Required\r\n",
+        ),
+        (
+            reply_head(alloc, 413, BodyKind::Json, 0, None, false)?,
+            "HTTP/1.1 413 Content Too Large\r\n",
+        ),
+        (
+            reply_head(alloc, 422, BodyKind::Json, 0, None, false)?,
+            "HTTP/1.1 422 Unprocessable Content\r\n",
+        ),
+        (
+            reply_head(alloc, 431, BodyKind::Json, 0, None, false)?,
+            "HTTP/1.1 431 Request Header Fields Too Large\r\n",
+        ),
+        (
+            reply_head(alloc, 500, BodyKind::Json, 0, None, false)?,
+            "HTTP/1.1 500 Internal Server Error\r\n",
+        ),
+        (
+            reply_head(alloc, 501, BodyKind::Json, 0, None, false)?,
+            "HTTP/1.1 501 Not Implemented\r\n",
+        ),
+        (
+            reply_head(alloc, 503, BodyKind::Json, 0, None, false)?,
+            "HTTP/1.1 503 Service Unavailable\r\n",
+        ),
+    ];
+    for (head, wanted) in &cases {
+        assert!(rt; head.starts_with(wanted.as_bytes()));
+    }
     Ok(())
 }

@@ -1,5 +1,4 @@
-use Rattle.std.proofs.Common.{◌<◌, ◌^◌, ◌≡◌, ◌∙◌, sym, arith, Some}
-use Rattle.eco_wire.specs.Numbers.{number_of_digits}
+use Rattle.std.proofs.Common.{◌<◌, ◌^◌, ◌≡◌, ◌∙◌, sym, arith}
 use Rattle.eco_wire.proofs.Digits.{decimal_of_digits, digits_of_decimal}
 use Rattle.eco_wire.proofs.numbers.read_number.Goals as goal
 
@@ -13,7 +12,7 @@ returns-in-Some c =
     let small : c.in-Some.number < 2 ^ 64 = omega arith in (
       small,
       decimal_of_digits c.args.text.now c.in-Some.number
-      (sym c.leads_with_zero.ensures ∙ c.if-leads_with_zero.false) (sym c.read_digits.ensures ∙ c.in-Some.is) small,
+          (sym c.leads_with_zero.ensures ∙ c.if-leads_with_zero.false) (sym c.read_digits.ensures ∙ c.in-Some.is) small,
     )
 
 pub returns-in_default : goal.returns-in_default
