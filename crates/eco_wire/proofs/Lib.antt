@@ -3,7 +3,7 @@ pub mod Feeds
 pub mod Finding
 pub mod Items
 pub mod Lengths
+pub mod Matching
 pub mod OneRoute
 pub mod Seeking
 pub mod Streaming
-pub mod Strips

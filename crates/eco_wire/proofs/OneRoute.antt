@@ -7,7 +7,8 @@ use Rattle.eco_wire.specs.Routes.{IsPathOf, RoutesAreOne}
 use Rattle.eco_wire.specs.declared.request.Span.{Span}
 use Rattle.eco_wire.specs.declared.routes.Route.{Route}
 use Rattle.eco_wire.specs.declared.routes.Route.TheVariants.{Front, Spares, Order, Revision, Plan, Commit, Withdraw, Hold, Release}
-use Rattle.eco_wire.proofs.Seeking.{finds, pattern_of}
+use Rattle.eco_wire.specs.Table.{pattern_of}
+use Rattle.eco_wire.proofs.Seeking.{finds}
 
 same_span : (a b : Span) → a.start ≡ b.start → a.len ≡ b.len → a ≡ b
 same_span a b start len = λ i. record { start = start i; len = len i }
@@ -30,7 +31,7 @@ one path _ _ e x y = cc
 
 pub routes_are_one : RoutesAreOne
 routes_are_one path a b bytes x y =
-    let found = (finds a path bytes x.form).0 in
-    let also = (finds b path bytes y.form).0 in
+    let found = finds a path bytes x.form in
+    let also = finds b path bytes y.form in
     let same : pattern_of a ≡ pattern_of b = cc in
     one path a b same x.form y.form

@@ -17,9 +17,9 @@ use Rattle.matchit.specs.Route.{scan}
 use Rattle.eco_wire.specs.Routes.{IsSegment, IsPathOf}
 use Rattle.eco_wire.specs.declared.routes.Route.{Route}
 use Rattle.eco_wire.specs.declared.routes.Route.TheVariants as route
-use Rattle.eco_wire.specs.Table.{table, HasForm}
+use Rattle.eco_wire.specs.Table.{table, pattern_of}
 use Rattle.eco_wire.specs.declared.routes.Pattern.{Pattern}
-use Rattle.eco_wire.specs.declared.routes.Pattern.TheVariants.{Front, Spares, Order, Revision, Plan, Commit, Withdraw, Hold, Release}
+use Rattle.eco_wire.specs.declared.routes.Pattern.TheVariants.{Order, Revision}
 
 abbrev pub IsPlain : List ℕ → Type 0
 IsPlain text = All (λ b. b ≢ 47) text
@@ -155,25 +155,13 @@ module _ {K : Type 0} where
 abbrev pub found_at : List ℕ → Option Pattern
 found_at path = option_map (λ (route : RouteOf Pattern). route.value) (first table path)
 
--- the pattern of each route
-abbrev pub pattern_of : Route → Pattern
-pattern_of route.Front = Front
-pattern_of route.Spares = Spares
-pattern_of (route.Order place) = Order
-pattern_of (route.Revision n) = Revision
-pattern_of route.Plan = Plan
-pattern_of route.Commit = Commit
-pattern_of route.Withdraw = Withdraw
-pattern_of route.Hold = Hold
-pattern_of route.Release = Release
-
 at_order : (name : List ℕ) → IsSegment name → get_or name 0 0 < 256 → found_at (codes "/orders/" ++ name) ≡ Some Order
 unfolding table scan
 at_order name segment byte =
     ap (option_map (λ (route : RouteOf Pattern). route.value)) (along (codes "/orders/") table name _ (at_name name _ segment byte))
 
 at_revision : (name : List ℕ) → IsSegment name → get_or name 0 0 < 256
-    → found_at (codes "/revision/" ++ name ++ codes "/def") ≡ Some Revision
+    → found_at (codes "/revision/" ++ (name ++ codes "/def")) ≡ Some Revision
 unfolding table scan seek
 at_revision name segment byte =
     ap (option_map (λ (route : RouteOf Pattern). route.value))
@@ -197,18 +185,19 @@ decimal_segment n small = record {
   one = plain_digits (decimal n) (digits_decimal own n small);
 }
 
--- what the table has at the path of a route, and the form of that path
+-- what the table has at the path of a route
 pub finds : (route : Route) (path : List ℕ) → ((i : ℕ) → get_or path i 0 < 256) → IsPathOf route path
-    → (found_at path ≡ Some (pattern_of route)) × HasForm (pattern_of route) path
+    → found_at path ≡ Some (pattern_of route)
 unfolding table matchit_on_literals
-finds route.Front path bytes is = (ap found_at is, is)
-finds route.Spares path bytes is = (ap found_at is, is)
+finds route.Front path bytes is = ap found_at is
+finds route.Spares path bytes is = ap found_at is
 finds (route.Order place) path bytes (name, segment, is, start, len) =
-    (ap found_at is ∙ at_order name segment (subst (λ p. get_or p 8 0 < 256) is (bytes 8)), (name, segment, is))
+    ap found_at is ∙ at_order name segment (subst (λ p. get_or p 8 0 < 256) is (bytes 8))
 finds (route.Revision n) path bytes (small, is) =
-    (ap found_at is ∙ at_revision (decimal n) (decimal_segment n small) (first_digit (decimal n) (digits_decimal own n small)), (n, small, is))
-finds route.Plan path bytes is = (ap found_at is, is)
-finds route.Commit path bytes is = (ap found_at is, is)
-finds route.Withdraw path bytes is = (ap found_at is, is)
-finds route.Hold path bytes is = (ap found_at is, is)
-finds route.Release path bytes is = (ap found_at is, is)
+    ap found_at is
+    ∙ at_revision (decimal n) (decimal_segment n small) (first_digit (decimal n) (digits_decimal own n small))
+finds route.Plan path bytes is = ap found_at is
+finds route.Commit path bytes is = ap found_at is
+finds route.Withdraw path bytes is = ap found_at is
+finds route.Hold path bytes is = ap found_at is
+finds route.Release path bytes is = ap found_at is

@@ -220,7 +220,7 @@ taken : (held : List ℕ) (pieces : List (List ℕ)) (kept : List ℕ) (rest : L
     → held ++ concat pieces ≡ kept ++ concat rest
 taken held [] kept rest (same, all) = cc
 taken held (piece ∷ pieces) kept rest (inl (same, all)) = cc
-taken held (piece ∷ pieces) kept rest (inr (needs, later)) =
+taken held (piece ∷ pieces) kept rest (inr later) =
     sym (append_assoc held piece (concat pieces)) ∙ taken (held ++ piece) pieces kept rest later
 
 stop_stays : (kept : List ℕ) (rest : List (List ℕ)) (end : End) → StopsAt kept rest end → Stops (kept ++ concat rest) end

@@ -19,7 +19,7 @@ IsPathOf Spares path = path ≡ codes "/spares"
 IsPathOf (Order place) path =
     (name : List ℕ) × IsSegment name × (path ≡ codes "/orders/" ++ name)
     × (place.start ≡ length (codes "/orders/")) × (place.len ≡ length name)
-IsPathOf (Revision n) path = (n < 2 ^ 64) × (path ≡ codes "/revision/" ++ decimal n ++ codes "/def")
+IsPathOf (Revision n) path = (n < 2 ^ 64) × (path ≡ codes "/revision/" ++ (decimal n ++ codes "/def"))
 IsPathOf Plan path = path ≡ codes "/plan"
 IsPathOf Commit path = path ≡ codes "/commit"
 IsPathOf Withdraw path = path ≡ codes "/withdraw"

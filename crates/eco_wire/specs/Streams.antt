@@ -46,11 +46,11 @@ IsStream room bytes (m ∷ ms) end =
 abbrev pub link_requests : ℕ
 link_requests = 1000
 
--- a link that keeps `held` takes pieces while it needs more; then it keeps `kept`, and `rest` are the pieces to come
+-- a link that keeps `held` takes some of the pieces; then it keeps `kept`, and `rest` are the pieces to come
 abbrev pub Takes : List ℕ → List (List ℕ) → List ℕ → List (List ℕ) → Type 0
 Takes held [] kept rest = (kept ≡ held) × (rest ≡ [])
 Takes held (piece ∷ pieces) kept rest =
-    ((kept ≡ held) × (rest ≡ piece ∷ pieces)) ⊎ (IsNext held unfinished × Takes (held ++ piece) pieces kept rest)
+    ((kept ≡ held) × (rest ≡ piece ∷ pieces)) ⊎ Takes (held ++ piece) pieces kept rest
 
 -- a link stops: at the end of the pieces, or where what it keeps is refused
 abbrev pub StopsAt : List ℕ → List (List ℕ) → End → Type 0
@@ -59,7 +59,7 @@ StopsAt kept rest closed = ⊥
 StopsAt kept rest (refused status) = Stops kept (refused status)
 StopsAt kept rest full = ⊥
 
--- what a link reads that keeps `held` and is given the pieces one after another
+-- what a link reads that keeps `held` and is given the pieces one after another, whenever it takes them
 abbrev pub IsLink : ℕ → List ℕ → List (List ℕ) → List Message → End → Type 0
 IsLink room held pieces [] end =
     (kept : List ℕ) × (rest : List (List ℕ)) × Takes held pieces kept rest × StopsAt kept rest end

@@ -2,7 +2,7 @@
 
 use thiserror::Error;
 
-/// There was no memory for the call.
+/// There was no memory for a growth.
 #[derive(Clone, Copy, Debug, Drop, PartialEq, Eq, Error)]
-#[error("no memory")]
+#[error("out of memory")]
 pub struct Memory;

@@ -1,9 +1,9 @@
 //! The route of a path, by `matchit`.
 
-ghost use Rattle.std.specs.Prelude.{◌≡◌, true, false, IfOk, OnOk, MatchOption};
+ghost use Rattle.std.specs.Prelude.{◌≡◌, ℕ, IfOk, OnOk, MatchOption};
 ghost use Rattle.matchit.specs.Route.{parse_route};
-ghost use Rattle.eco_wire.specs.Table.{table, with_route, HasForm};
-ghost use Rattle.eco_wire.specs.Routes.{IsPathOf, IsSegment, RoutesAreOne};
+ghost use Rattle.eco_wire.specs.Table.{table, with_route, HasForm, pattern_of};
+ghost use Rattle.eco_wire.specs.Routes.{IsPathOf, RoutesAreOne};
 
 use crate::memory::Memory;
 use crate::numbers::read_number;
@@ -25,46 +25,40 @@ fn add(patterns: &mut matchit::Router<Pattern>, path: &str, pattern: Pattern) ->
     patterns.insert(path, pattern).map_err(|_| Memory)
 }
 
-fn is_segment(text: &[u8]) -> bool
-    ensures segment { result ≡ true → IsSegment text.now }
-    ensures other { result ≡ false → ¬ (IsSegment text.now) }
-{
-    !text.is_empty() && !text.contains(&b'/')
-}
-
-fn read_order(path: &[u8]) -> Option<Route>
-    ensures { MatchOption result (¬ (HasForm Pattern.Order path.now)) (λ route. IsPathOf route path.now) }
-{
-    let name = path.strip_prefix(b"/orders/")?;
-    is_segment(name).then_some(Route::Order(Span {
-        start: 8,
-        len: name.len(),
-    }))
-}
-
+/// The route of the revision whose number stands in a path of this form, if it is one.
 fn read_revision(path: &[u8]) -> Option<Route>
-    ensures { MatchOption result (¬ (HasForm Pattern.Revision path.now)) (λ route. IsPathOf route path.now) }
+    requires { HasForm Pattern.Revision path.now }
+    ensures { MatchOption result ((n : ℕ) → ¬ (IsPathOf (Route.Revision n) path.now))
+        (λ route. IsPathOf route path.now) }
 {
-    let digits = path.strip_prefix(b"/revision/")?.strip_suffix(b"/def")?;
+    let digits = &path[b"/revision/".len()..path.len() - b"/def".len()];
     Some(Route::Revision(read_number(digits)?))
 }
 
-/// The route of a path for which `matchit` found this form. What the path holds is read from the path itself.
+/// The route of a path of this form.
 fn read_path(pattern: Pattern, path: &[u8]) -> Option<Route>
-    ensures { MatchOption result (¬ (HasForm pattern path.now)) (λ route. IsPathOf route path.now) }
+    requires { HasForm pattern path.now }
+    ensures { MatchOption result ((route : Route) → pattern_of route ≡ pattern → ¬ (IsPathOf route path.now))
+        (λ route. IsPathOf route path.now) }
 {
-    match (pattern, path) {
-        (Pattern::Front, b"/front") => Some(Route::Front),
-        (Pattern::Spares, b"/spares") => Some(Route::Spares),
-        (Pattern::Order, _) => read_order(path),
-        (Pattern::Revision, _) => read_revision(path),
-        (Pattern::Plan, b"/plan") => Some(Route::Plan),
-        (Pattern::Commit, b"/commit") => Some(Route::Commit),
-        (Pattern::Withdraw, b"/withdraw") => Some(Route::Withdraw),
-        (Pattern::Hold, b"/hold") => Some(Route::Hold),
-        (Pattern::Release, b"/release") => Some(Route::Release),
-        _ => None,
-    }
+    let route = match pattern {
+        Pattern::Front => Route::Front,
+        Pattern::Spares => Route::Spares,
+        Pattern::Order => {
+            let start = b"/orders/".len();
+            Route::Order(Span {
+                start,
+                len: path.len() - start,
+            })
+        }
+        Pattern::Revision => return read_revision(path),
+        Pattern::Plan => Route::Plan,
+        Pattern::Commit => Route::Commit,
+        Pattern::Withdraw => Route::Withdraw,
+        Pattern::Hold => Route::Hold,
+        Pattern::Release => Route::Release,
+    };
+    Some(route)
 }
 
 impl Router {

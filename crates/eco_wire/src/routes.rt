@@ -50,7 +50,7 @@ pub enum RouteFault {
     NoPath,
     #[error("the route of this path has the method {allow:?}")]
     WrongMethod { allow: Method },
-    #[error("no memory")]
+    #[error("out of memory")]
     Memory,
 }
 
