@@ -289,3 +289,35 @@ fn each_status_has_its_phrase(rt: HostRuntime) -> Result<(), Fail> {
     }
     Ok(())
 }
+
+#[test]
+fn a_request_for_the_front_is_routed_and_answered(rt: HostRuntime) -> Result<(), Fail> {
+    let bytes: &[u8] = b"GET /front HTTP/1.1\r\nHost: eco\r\n\r\n";
+    let Next::Request(request) = next_request(bytes) else {
+        assert!(rt; false);
+        return Ok(());
+    };
+    let end = request.path.start + request.path.len;
+    let Some(path) = bytes.get(request.path.start..end) else {
+        assert!(rt; false);
+        return Ok(());
+    };
+    assert_eq!(rt; path, b"/front".as_slice());
+    let router = Router::new(rt.alloc())?;
+    assert_eq!(rt;
+        router.route(rt.alloc(), &request.method, path),
+        Ok(Route::Front)
+    );
+    assert_eq!(rt;
+        router.route(rt.alloc(), &Method::Get, b"/none"),
+        Err(RouteFault::NoPath)
+    );
+    let wrong = RouteFault::WrongMethod { allow: Method::Get };
+    assert_eq!(rt; router.route(rt.alloc(), &Method::Post, path), Err(wrong));
+    let head = reply_head(rt.alloc(), 200, BodyKind::Json, 11, None, request.close)?;
+    assert_eq!(rt;
+        head.as_slice(),
+        b"HTTP/1.1 200 OK\r\nContent-Type: application/json\r\nContent-Length: 11\r\n\r\n".as_slice()
+    );
+    Ok(())
+}
