@@ -1,0 +1,9 @@
+pub mod Digits
+pub mod Feeds
+pub mod Finding
+pub mod Items
+pub mod Lengths
+pub mod Matching
+pub mod OneRoute
+pub mod Seeking
+pub mod Streaming
