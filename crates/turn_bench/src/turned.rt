@@ -4,6 +4,7 @@ ghost use Rattle.eco_turn.specs.Pass.{HasLeft, pass_number};
 ghost use Rattle.eco_turn.specs.Turn.{IsPassOf};
 
 use crate::count::Count;
+use crate::task::Task;
 use anyhow::{Result, bail};
 use eco_turn::{Pass, Turn};
 use std::alloc::Global;
@@ -12,14 +13,14 @@ use std::thread;
 use std::thread::Threads;
 
 /// Enters and leaves so often, and counts each time.
-fn pass_through<W: Wait>(rt: &W, turn: &Turn<Count>, pass: &mut Pass<(), ()>, pairs: u32)
+fn pass_through<W: Wait>(rt: &W, turn: &Turn<Count>, pass: &mut Pass<(), ()>, task: &Task)
     requires { IsPassOf (λ _. tt) turn.now pass.old × HasLeft pass.old }
     ensures pass { IsPassOf (λ _. tt) turn.now pass.new × HasLeft pass.new }
     ensures number { pass_number pass.new ≡ pass_number pass.old }
 {
-    'pairs: for _ in 0..pairs {
+    'pairs: for _ in 0..task.pairs {
         let mut held = turn.enter(rt, pass);
-        held.get().add();
+        held.get().add(task.rounds);
         Turn::leave(held, pass);
     }
 }
@@ -29,7 +30,7 @@ fn pass_in_threads<W: Wait + Threads + Sync>(
     rt: &W,
     turn: &Turn<Count>,
     passes: &mut [Pass<(), ()>],
-    pairs: u32,
+    task: &Task,
 )
     requires { All (λ p. IsPassOf (λ _. tt) turn.now p × HasLeft p) passes.old }
     ensures passes { All (λ p. IsPassOf (λ _. tt) turn.now p × HasLeft p) passes.new }
@@ -46,7 +47,7 @@ fn pass_in_threads<W: Wait + Threads + Sync>(
         rt,
         passes,
         count,
-        &|_, pass| pass_through(rt, turn, pass, pairs),
+        &|_, pass| pass_through(rt, turn, pass, task),
     );
 }
 
@@ -55,13 +56,13 @@ pub fn count_turned<W: Wait + Threads + Sync>(
     rt: &W,
     alloc: Global,
     threads: u32,
-    pairs: u32,
+    task: &Task,
 ) -> Result<u64>
     requires threads { (0 < threads) × (threads ≤ 64) }
 {
-    let Ok((turn, mut passes)) = Turn::new(alloc, Count { passed: 0 }, threads) else {
+    let Ok((turn, mut passes)) = Turn::new(alloc, Count::new(), threads) else {
         bail!("out of memory");
     };
-    pass_in_threads(rt, &turn, passes.as_mut_slice(), pairs);
+    pass_in_threads(rt, &turn, passes.as_mut_slice(), task);
     Ok(turn.close(passes).passed)
 }
