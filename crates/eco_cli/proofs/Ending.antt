@@ -9,9 +9,9 @@ use Rattle.eco_base.specs.Issued.{edited}
 use Rattle.eco_def.specs.View.{design_in}
 use Rattle.eco_def.specs.declared.design.Design.{Design as DesignRead}
 use Rattle.eco_cli.specs.CommandLine.{Move}
-use Rattle.eco_cli.specs.Opens.{Ready, Asked, for_source, for_sink, IsFirst, with_asked, with_back, IsEmptyWhereTold, Counts}
+use Rattle.eco_cli.specs.Opens.{Told, Ready, Asked, for_source, for_sink, IsFirst, with_asked, with_back, IsEmptyWhereTold, Counts}
 use Rattle.eco_cli.specs.Whole.{IsWhole, IsLonger, ReadsAll}
-use Rattle.eco_cli.specs.MoveCommand.{Told, IsText, IsRead, asks, GivesBack, GivesFront, IsMoved, Reading, Planning, Writing, Ends}
+use Rattle.eco_cli.specs.MoveCommand.{IsText, IsRead, asks, GivesBack, GivesFront, IsMoved, Reading, Planning, Writing, Ends}
 use Rattle.eco_base.specs.Issued.{Edit}
 use Rattle.eco_cli.specs.declared.failure.Failure.{Failure}
 use Rattle.eco_cli.specs.declared.failure.Failure.TheVariants as failed
@@ -43,17 +43,17 @@ fails : (f : ℕ) → Rose 0 f → 0 < f
 fails f rose = omega arith
 
 -- how an open and a reading end
-pub reading_of : {T I O V : Type 0} (h : Told T I O) (old mid new : T) (name : List ℕ) (bytes : V → List ℕ) (x : I) (faults : ℕ) (r : Result V Failure) →
-    IsFirst name (h.sources old) x → h.asked mid ≡ with_asked (h.asked old) (for_source name) → h.asked new ≡ h.asked mid → Counts faults (h.read_faults old) (h.read_faults new) → ReadsAll 134217728 (h.left x) 0 faults bytes r →
-    Reading h old new name bytes r
-reading_of h old mid new name bytes x faults (Ok v) first asked same counts reads = (text_is h.left name (h.sources old) x (bytes v) first reads.0, reads.1, same ∙ asked)
-reading_of h old mid new name bytes x faults (Err (failed.Words n)) first asked same counts reads = absurd reads
-reading_of h old mid new name bytes x faults (Err failed.TooLong) first asked same counts reads = (text_longer h.left name (h.sources old) x 134217728 first reads, same ∙ asked)
-reading_of h old mid new name bytes x faults (Err failed.Def) first asked same counts reads = absurd reads
-reading_of h old mid new name bytes x faults (Err (failed.Move fault)) first asked same counts reads = absurd reads
-reading_of h old mid new name bytes x faults (Err failed.Read) first asked same counts reads = (inr (counts.failed (fails faults reads)), same ∙ asked)
-reading_of h old mid new name bytes x faults (Err failed.Write) first asked same counts reads = absurd reads
-reading_of h old mid new name bytes x faults (Err failed.Memory) first asked same counts reads = inr (same ∙ asked)
+pub reading_of : {T I O V : Type 0} (h : Told T I O) (left : I → Option (List ℕ)) (taken : O → Option (List ℕ)) (old mid new : T) (name : List ℕ) (bytes : V → List ℕ) (x : I) (faults : ℕ) (r : Result V Failure) →
+    IsFirst name (h.sources old) x → h.asked mid ≡ with_asked (h.asked old) (for_source name) → h.asked new ≡ h.asked mid → Counts faults (h.read_faults old) (h.read_faults new) → ReadsAll 134217728 (left x) 0 faults bytes r →
+    Reading h left taken old new name bytes r
+reading_of h left taken old mid new name bytes x faults (Ok v) first asked same counts reads = (text_is left name (h.sources old) x (bytes v) first reads.0, reads.1, same ∙ asked)
+reading_of h left taken old mid new name bytes x faults (Err (failed.Words n)) first asked same counts reads = absurd reads
+reading_of h left taken old mid new name bytes x faults (Err failed.TooLong) first asked same counts reads = (text_longer left name (h.sources old) x 134217728 first reads, same ∙ asked)
+reading_of h left taken old mid new name bytes x faults (Err failed.Def) first asked same counts reads = absurd reads
+reading_of h left taken old mid new name bytes x faults (Err (failed.Move fault)) first asked same counts reads = absurd reads
+reading_of h left taken old mid new name bytes x faults (Err failed.Read) first asked same counts reads = (inr (counts.failed (fails faults reads)), same ∙ asked)
+reading_of h left taken old mid new name bytes x faults (Err failed.Write) first asked same counts reads = absurd reads
+reading_of h left taken old mid new name bytes x faults (Err failed.Memory) first asked same counts reads = inr (same ∙ asked)
 
 -- ---- the opens of a move
 
@@ -70,31 +70,31 @@ asks_both m (Some before) mid new one two = two ∙ ap (λ a. with_asked a (for_
 
 -- ---- the ends of a move
 
-pub ends_reading : {T I O V : Type 0} (h : Told T I O) (old new : T) (m : Move) (bytes : V → List ℕ) (e : Failure) → Reading h old new m.def bytes (Err e) → h.sinks_back new ≡ h.sinks_back old → Ends h old new m (Err e)
-ends_reading h old new m bytes (failed.Words n) r back = absurd r
-ends_reading h old new m bytes failed.TooLong r back = (r.0, r.1, back)
-ends_reading h old new m bytes failed.Def r back = absurd r
-ends_reading h old new m bytes (failed.Move fault) r back = absurd r
-ends_reading h old new m bytes failed.Read r back = (back, inl (r.1, r.0))
-ends_reading h old new m bytes failed.Write r back = absurd r
-ends_reading h old new m bytes failed.Memory r back = (elim r [ inl none ↦ (0, asks_none m (h.asked old) (h.asked new) none) | inr one ↦ (1, one) ], back)
+pub ends_reading : {T I O V : Type 0} (h : Told T I O) (left : I → Option (List ℕ)) (taken : O → Option (List ℕ)) (old new : T) (m : Move) (bytes : V → List ℕ) (e : Failure) → Reading h left taken old new m.def bytes (Err e) → h.sinks_back new ≡ h.sinks_back old → Ends h left taken old new m (Err e)
+ends_reading h left taken old new m bytes (failed.Words n) r back = absurd r
+ends_reading h left taken old new m bytes failed.TooLong r back = (r.0, r.1, back)
+ends_reading h left taken old new m bytes failed.Def r back = absurd r
+ends_reading h left taken old new m bytes (failed.Move fault) r back = absurd r
+ends_reading h left taken old new m bytes failed.Read r back = (back, inl (r.1, r.0))
+ends_reading h left taken old new m bytes failed.Write r back = absurd r
+ends_reading h left taken old new m bytes failed.Memory r back = (elim r [ inl none ↦ (0, asks_none m (h.asked old) (h.asked new) none) | inr one ↦ (1, one) ], back)
 
-pub ends_planning : {T I O V : Type 0} (h : Told T I O) (old new : T) (m : Move) (bytes : V → List ℕ) (v : V) (e : Failure) → Reading h old new m.def bytes (Ok v) → h.sinks_back new ≡ h.sinks_back old → Planning (bytes v) m (Err e) → Ends h old new m (Err e)
-ends_planning h old new m bytes v (failed.Words n) r back p = absurd p
-ends_planning h old new m bytes v failed.TooLong r back p = absurd p
-ends_planning h old new m bytes v failed.Def r back p = (bytes v, r.0, r.1, p, r.2, back)
-ends_planning h old new m bytes v (failed.Move fault) r back p = (bytes v, p.0, r.0, record { short = r.1; form = p.1 }, p.2, r.2, back)
-ends_planning h old new m bytes v failed.Read r back p = absurd p
-ends_planning h old new m bytes v failed.Write r back p = absurd p
-ends_planning h old new m bytes v failed.Memory r back p = ((1, r.2), back)
+pub ends_planning : {T I O V : Type 0} (h : Told T I O) (left : I → Option (List ℕ)) (taken : O → Option (List ℕ)) (old new : T) (m : Move) (bytes : V → List ℕ) (v : V) (e : Failure) → Reading h left taken old new m.def bytes (Ok v) → h.sinks_back new ≡ h.sinks_back old → Planning (bytes v) m (Err e) → Ends h left taken old new m (Err e)
+ends_planning h left taken old new m bytes v (failed.Words n) r back p = absurd p
+ends_planning h left taken old new m bytes v failed.TooLong r back p = absurd p
+ends_planning h left taken old new m bytes v failed.Def r back p = (bytes v, r.0, r.1, p, r.2, back)
+ends_planning h left taken old new m bytes v (failed.Move fault) r back p = (bytes v, p.0, r.0, record { short = r.1; form = p.1 }, p.2, r.2, back)
+ends_planning h left taken old new m bytes v failed.Read r back p = absurd p
+ends_planning h left taken old new m bytes v failed.Write r back p = absurd p
+ends_planning h left taken old new m bytes v failed.Memory r back p = ((1, r.2), back)
 
 moved_is : (text : List ℕ) (m : Move) (d : DesignRead) (edits : List Edit) → length text ≤ 134217728 → Planning text m (Ok (d, edits)) → IsMoved m text (edited text 0 edits)
 moved_is text m d edits short p = record { design = design_in text d; read = record { short = short; form = p.1 }; may = p.2; issued = p.3.issued }
 
-pub ends_writing : {T I O V : Type 0} (h : Told T I O) (old mid new : T) (m : Move) (bytes : V → List ℕ) (v : V) (d : DesignRead) (edits : List Edit) (r : Result ℕ Failure) →
-    Reading h old mid m.def bytes (Ok v) → h.sinks_back mid ≡ h.sinks_back old → h.refused old ≤ h.refused mid → h.write_faults old ≤ h.write_faults mid → Planning (bytes v) m (Ok (d, edits)) →
-    Writing h mid new m.out (edited (bytes v) 0 edits) r → Ends h old new m r
-ends_writing h old mid new m bytes v d edits (Ok n) read back no-refused no-fault p w = (
+pub ends_writing : {T I O V : Type 0} (h : Told T I O) (left : I → Option (List ℕ)) (taken : O → Option (List ℕ)) (old mid new : T) (m : Move) (bytes : V → List ℕ) (v : V) (d : DesignRead) (edits : List Edit) (r : Result ℕ Failure) →
+    Reading h left taken old mid m.def bytes (Ok v) → h.sinks_back mid ≡ h.sinks_back old → h.refused old ≤ h.refused mid → h.write_faults old ≤ h.write_faults mid → Planning (bytes v) m (Ok (d, edits)) →
+    Writing h left taken mid new m.out (edited (bytes v) 0 edits) r → Ends h left taken old new m r
+ends_writing h left taken old mid new m bytes v d edits (Ok n) read back no-refused no-fault p w = (
   bytes v,
   edited (bytes v) 0 edits,
   read.0,
@@ -103,11 +103,11 @@ ends_writing h old mid new m bytes v d edits (Ok n) read back no-refused no-faul
   (w.1.0, w.1.1 ∙ ap (λ b. with_back b w.1.0) back, w.1.2),
   w.2,
 )
-ends_writing h old mid new m bytes v d edits (Err (failed.Words n)) read back no-refused no-fault p w = absurd w
-ends_writing h old mid new m bytes v d edits (Err failed.TooLong) read back no-refused no-fault p w = absurd w
-ends_writing h old mid new m bytes v d edits (Err failed.Def) read back no-refused no-fault p w = absurd w
-ends_writing h old mid new m bytes v d edits (Err (failed.Move fault)) read back no-refused no-fault p w = absurd w
-ends_writing h old mid new m bytes v d edits (Err failed.Read) read back no-refused no-fault p w = (
+ends_writing h left taken old mid new m bytes v d edits (Err (failed.Words n)) read back no-refused no-fault p w = absurd w
+ends_writing h left taken old mid new m bytes v d edits (Err failed.TooLong) read back no-refused no-fault p w = absurd w
+ends_writing h left taken old mid new m bytes v d edits (Err failed.Def) read back no-refused no-fault p w = absurd w
+ends_writing h left taken old mid new m bytes v d edits (Err (failed.Move fault)) read back no-refused no-fault p w = absurd w
+ends_writing h left taken old mid new m bytes v d edits (Err failed.Read) read back no-refused no-fault p w = (
   w.1 ∙ back,
   inr (
     bytes v,
@@ -118,7 +118,7 @@ ends_writing h old mid new m bytes v d edits (Err failed.Read) read back no-refu
     rose_since (h.refused old) (h.refused mid) (h.refused new) no-refused w.2,
   ),
 )
-ends_writing h old mid new m bytes v d edits (Err failed.Write) read back no-refused no-fault p w = (
+ends_writing h left taken old mid new m bytes v d edits (Err failed.Write) read back no-refused no-fault p w = (
   bytes v,
   edited (bytes v) 0 edits,
   read.0,
@@ -127,7 +127,7 @@ ends_writing h old mid new m bytes v d edits (Err failed.Write) read back no-ref
   (w.1.0, w.1.1 ∙ ap (λ b. with_back b w.1.0) back, w.1.2),
   rose_since (h.write_faults old) (h.write_faults mid) (h.write_faults new) no-fault w.2,
 )
-ends_writing h old mid new m bytes v d edits (Err failed.Memory) read back no-refused no-fault p w =
+ends_writing h left taken old mid new m bytes v d edits (Err failed.Memory) read back no-refused no-fault p w =
     (elim w.0 [ inl none ↦ (1, none ∙ read.2) | inr one ↦ (2, asks_both m (h.asked old) (h.asked mid) (h.asked new) read.2 one) ], w.1 ∙ back)
 
 -- ---- what a sink holds

@@ -12,20 +12,9 @@ use Rattle.eco_base.specs.Changes.{NewJoint}
 use Rattle.eco_base.specs.Issued.{Edit, issued_text, IsOverlayOf}
 use Rattle.eco_base.specs.Moving.{move_fault}
 use Rattle.eco_cli.specs.CommandLine.{Move, AsksMove, IsBadWord}
-use Rattle.eco_cli.specs.Opens.{Ready, Asked, for_source, for_sink, with_asked, with_back}
+use Rattle.eco_cli.specs.Opens.{Ready, Asked, for_source, for_sink, Told, with_asked, with_back}
 use Rattle.eco_cli.specs.declared.failure.Failure.{Failure}
 use Rattle.eco_cli.specs.declared.failure.Failure.TheVariants as failed
-
--- what a host and its objects tell
-pub record Told (T I O : Type 0) : Type 0 where
-  pub sources : T → Ready I
-  pub left : I → Option (List ℕ)
-  pub taken : O → Option (List ℕ)
-  pub asked : T → Option (List Asked)
-  pub sinks_back : T → Option (List O)
-  pub refused : T → ℕ
-  pub read_faults : T → ℕ
-  pub write_faults : T → ℕ
 
 -- the host tells that the source of a name has this text
 abbrev pub IsText : {I : Type 0} → Ready I → (I → Option (List ℕ)) → List ℕ → List ℕ → Type 0
@@ -65,37 +54,37 @@ GivesFront {O} taken old new bytes = (sink : O) × (new ≡ with_back old sink) 
 -- How a move ends, by what the host was and is:
 -- the output holds the moved text; or the DEF is too long, has no design of that form, or the move is refused, and no output is opened;
 -- or an open or a read failed; or a write; or memory ran out.
-abbrev pub Ends : {T I O : Type 0} → Told T I O → T → T → Move → Result ℕ Failure → Type 0
-Ends h old new m (Ok count) = (text : List ℕ) × (moved : List ℕ) × IsRead (h.sources old) h.left m.def text × IsMoved m text moved
-    × asks 2 m (h.asked old) (h.asked new) × GivesBack h.taken (h.sinks_back old) (h.sinks_back new) moved × (count ≡ length moved)
-Ends h old new m (Err (failed.Words n)) = ⊥
-Ends h old new m (Err failed.TooLong) = ((text : List ℕ) → IsText (h.sources old) h.left m.def text → 134217728 < length text)
+abbrev pub Ends : {T I O : Type 0} → Told T I O → (I → Option (List ℕ)) → (O → Option (List ℕ)) → T → T → Move → Result ℕ Failure → Type 0
+Ends h left taken old new m (Ok count) = (text : List ℕ) × (moved : List ℕ) × IsRead (h.sources old) left m.def text × IsMoved m text moved
+    × asks 2 m (h.asked old) (h.asked new) × GivesBack taken (h.sinks_back old) (h.sinks_back new) moved × (count ≡ length moved)
+Ends h left taken old new m (Err (failed.Words n)) = ⊥
+Ends h left taken old new m (Err failed.TooLong) = ((text : List ℕ) → IsText (h.sources old) left m.def text → 134217728 < length text)
     × asks 1 m (h.asked old) (h.asked new) × (h.sinks_back new ≡ h.sinks_back old)
-Ends h old new m (Err failed.Def) = (text : List ℕ) × IsRead (h.sources old) h.left m.def text × (length text ≤ 134217728) × ((d : Design) → IsFirstForm text d → ⊥)
+Ends h left taken old new m (Err failed.Def) = (text : List ℕ) × IsRead (h.sources old) left m.def text × (length text ≤ 134217728) × ((d : Design) → IsFirstForm text d → ⊥)
     × asks 1 m (h.asked old) (h.asked new) × (h.sinks_back new ≡ h.sinks_back old)
-Ends h old new m (Err (failed.Move fault)) = (text : List ℕ) × (d : Design) × IsRead (h.sources old) h.left m.def text × HasDesign text d
+Ends h left taken old new m (Err (failed.Move fault)) = (text : List ℕ) × (d : Design) × IsRead (h.sources old) left m.def text × HasDesign text d
     × (move_fault (names_of d) m.comp m.pin m.from m.to ≡ Some fault) × asks 1 m (h.asked old) (h.asked new) × (h.sinks_back new ≡ h.sinks_back old)
-Ends h old new m (Err failed.Read) = (h.sinks_back new ≡ h.sinks_back old)
+Ends h left taken old new m (Err failed.Read) = (h.sinks_back new ≡ h.sinks_back old)
     × ((asks 1 m (h.asked old) (h.asked new) × (Rose (h.refused old) (h.refused new) ⊎ Rose (h.read_faults old) (h.read_faults new)))
-    ⊎ ((text : List ℕ) × (moved : List ℕ) × IsRead (h.sources old) h.left m.def text × IsMoved m text moved × asks 2 m (h.asked old) (h.asked new) × Rose (h.refused old) (h.refused new)))
-Ends h old new m (Err failed.Write) = (text : List ℕ) × (moved : List ℕ) × IsRead (h.sources old) h.left m.def text × IsMoved m text moved
-    × asks 2 m (h.asked old) (h.asked new) × GivesFront h.taken (h.sinks_back old) (h.sinks_back new) moved × Rose (h.write_faults old) (h.write_faults new)
-Ends h old new m (Err failed.Memory) = ((k : ℕ) × asks k m (h.asked old) (h.asked new)) × (h.sinks_back new ≡ h.sinks_back old)
+    ⊎ ((text : List ℕ) × (moved : List ℕ) × IsRead (h.sources old) left m.def text × IsMoved m text moved × asks 2 m (h.asked old) (h.asked new) × Rose (h.refused old) (h.refused new)))
+Ends h left taken old new m (Err failed.Write) = (text : List ℕ) × (moved : List ℕ) × IsRead (h.sources old) left m.def text × IsMoved m text moved
+    × asks 2 m (h.asked old) (h.asked new) × GivesFront taken (h.sinks_back old) (h.sinks_back new) moved × Rose (h.write_faults old) (h.write_faults new)
+Ends h left taken old new m (Err failed.Memory) = ((k : ℕ) × asks k m (h.asked old) (h.asked new)) × (h.sinks_back new ≡ h.sinks_back old)
 
 -- How a command line ends: a bad word opens nothing, and a move ends as it may.
-abbrev pub Comes : {T I O : Type 0} → Told T I O → T → T → List (List ℕ) → Result ℕ Failure → Type 0
-Comes h old new words (Err (failed.Words n)) = IsBadWord words n × (h.asked new ≡ h.asked old) × (h.sinks_back new ≡ h.sinks_back old)
-Comes h old new words r = (m : Move) × AsksMove words m × Ends h old new m r
+abbrev pub Comes : {T I O : Type 0} → Told T I O → (I → Option (List ℕ)) → (O → Option (List ℕ)) → T → T → List (List ℕ) → Result ℕ Failure → Type 0
+Comes h left taken old new words (Err (failed.Words n)) = IsBadWord words n × (h.asked new ≡ h.asked old) × (h.sinks_back new ≡ h.sinks_back old)
+Comes h left taken old new words r = (m : Move) × AsksMove words m × Ends h left taken old new m r
 
 -- ---- the steps of a move
 
 -- How the reading of a source ends: its whole text was read; or it is too long; or the open or a read failed; or memory ran out.
-abbrev pub Reading : {T I O V : Type 0} → Told T I O → T → T → List ℕ → (V → List ℕ) → Result V Failure → Type 0
-Reading h old new name bytes (Ok v) = IsRead (h.sources old) h.left name (bytes v) × (length (bytes v) ≤ 134217728) × (h.asked new ≡ with_asked (h.asked old) (for_source name))
-Reading h old new name bytes (Err failed.TooLong) = ((text : List ℕ) → IsText (h.sources old) h.left name text → 134217728 < length text) × (h.asked new ≡ with_asked (h.asked old) (for_source name))
-Reading h old new name bytes (Err failed.Read) = (Rose (h.refused old) (h.refused new) ⊎ Rose (h.read_faults old) (h.read_faults new)) × (h.asked new ≡ with_asked (h.asked old) (for_source name))
-Reading h old new name bytes (Err failed.Memory) = (h.asked new ≡ h.asked old) ⊎ (h.asked new ≡ with_asked (h.asked old) (for_source name))
-Reading h old new name bytes (Err e) = ⊥
+abbrev pub Reading : {T I O V : Type 0} → Told T I O → (I → Option (List ℕ)) → (O → Option (List ℕ)) → T → T → List ℕ → (V → List ℕ) → Result V Failure → Type 0
+Reading h left taken old new name bytes (Ok v) = IsRead (h.sources old) left name (bytes v) × (length (bytes v) ≤ 134217728) × (h.asked new ≡ with_asked (h.asked old) (for_source name))
+Reading h left taken old new name bytes (Err failed.TooLong) = ((text : List ℕ) → IsText (h.sources old) left name text → 134217728 < length text) × (h.asked new ≡ with_asked (h.asked old) (for_source name))
+Reading h left taken old new name bytes (Err failed.Read) = (Rose (h.refused old) (h.refused new) ⊎ Rose (h.read_faults old) (h.read_faults new)) × (h.asked new ≡ with_asked (h.asked old) (for_source name))
+Reading h left taken old new name bytes (Err failed.Memory) = (h.asked new ≡ h.asked old) ⊎ (h.asked new ≡ with_asked (h.asked old) (for_source name))
+Reading h left taken old new name bytes (Err e) = ⊥
 
 -- How the planning of a move in a text ends.
 abbrev pub Planning : List ℕ → Move → Result (DesignRead × List Edit) Failure → Type 0
@@ -106,20 +95,12 @@ Planning text m (Err failed.Memory) = Unit {0}
 Planning text m (Err e) = ⊥
 
 -- How the writing of these bytes ends: all were written; or the open was refused; or a write failed; or memory ran out.
-abbrev pub Writing : {T I O : Type 0} → Told T I O → T → T → List ℕ → List ℕ → Result ℕ Failure → Type 0
-Writing h old new name bytes (Ok n) = (h.asked new ≡ with_asked (h.asked old) (for_sink name)) × GivesBack h.taken (h.sinks_back old) (h.sinks_back new) bytes × (n ≡ length bytes)
-Writing h old new name bytes (Err failed.Read) = (h.asked new ≡ with_asked (h.asked old) (for_sink name)) × (h.sinks_back new ≡ h.sinks_back old) × Rose (h.refused old) (h.refused new)
-Writing h old new name bytes (Err failed.Write) = (h.asked new ≡ with_asked (h.asked old) (for_sink name)) × GivesFront h.taken (h.sinks_back old) (h.sinks_back new) bytes × Rose (h.write_faults old) (h.write_faults new)
-Writing h old new name bytes (Err failed.Memory) = ((h.asked new ≡ h.asked old) ⊎ (h.asked new ≡ with_asked (h.asked old) (for_sink name))) × (h.sinks_back new ≡ h.sinks_back old)
-Writing h old new name bytes (Err e) = ⊥
-
--- no count has fallen, and as much is open as was
-pub record Settled (refused reads writes sources sinks refused' reads' writes' sources' sinks' : ℕ) : Type 0 where
-  pub refusals : refused ≤ refused'
-  pub read_faults : reads ≤ reads'
-  pub write_faults : writes ≤ writes'
-  pub open_sources : sources' ≡ sources
-  pub open_sinks : sinks' ≡ sinks
+abbrev pub Writing : {T I O : Type 0} → Told T I O → (I → Option (List ℕ)) → (O → Option (List ℕ)) → T → T → List ℕ → List ℕ → Result ℕ Failure → Type 0
+Writing h left taken old new name bytes (Ok n) = (h.asked new ≡ with_asked (h.asked old) (for_sink name)) × GivesBack taken (h.sinks_back old) (h.sinks_back new) bytes × (n ≡ length bytes)
+Writing h left taken old new name bytes (Err failed.Read) = (h.asked new ≡ with_asked (h.asked old) (for_sink name)) × (h.sinks_back new ≡ h.sinks_back old) × Rose (h.refused old) (h.refused new)
+Writing h left taken old new name bytes (Err failed.Write) = (h.asked new ≡ with_asked (h.asked old) (for_sink name)) × GivesFront taken (h.sinks_back old) (h.sinks_back new) bytes × Rose (h.write_faults old) (h.write_faults new)
+Writing h left taken old new name bytes (Err failed.Memory) = ((h.asked new ≡ h.asked old) ⊎ (h.asked new ≡ with_asked (h.asked old) (for_sink name))) × (h.sinks_back new ≡ h.sinks_back old)
+Writing h left taken old new name bytes (Err e) = ⊥
 
 -- ---- a command line and its answer
 

@@ -66,3 +66,24 @@ with_back back x = option_map (λ xs. xs ++ x ∷ []) back
 abbrev pub IsEmptyWhereTold : Option (List ℕ) → Type 0
 IsEmptyWhereTold None = Unit {0}
 IsEmptyWhereTold (Some bytes) = bytes ≡ []
+
+-- what a host of type T tells, whose sources and sinks have the types I and O
+pub record Told (T I O : Type 0) : Type 0 where
+  pub sources : T → Ready I
+  pub sinks : T → Ready O
+  pub asked : T → Option (List Asked)
+  pub sources_back : T → Option (List I)
+  pub sinks_back : T → Option (List O)
+  pub refused : T → ℕ
+  pub read_faults : T → ℕ
+  pub write_faults : T → ℕ
+  pub open_sources : T → ℕ
+  pub open_sinks : T → ℕ
+
+-- no count has fallen, and as much is open as was
+pub record Settled {T I O : Type 0} (h : Told T I O) (old new : T) : Type 0 where
+  pub refusals : h.refused old ≤ h.refused new
+  pub read_faults : h.read_faults old ≤ h.read_faults new
+  pub write_faults : h.write_faults old ≤ h.write_faults new
+  pub open_sources : h.open_sources new ≡ h.open_sources old
+  pub open_sinks : h.open_sinks new ≡ h.open_sinks old

@@ -4,7 +4,8 @@ ghost use Rattle.std.specs.Prelude.{◌≡◌, ℕ, ◌≤◌, ◌⊎◌, map, s
 ghost use Rattle.std.specs.Io.KnownBytes.{append_known};
 ghost use Rattle.eco_text.specs.Causes.{Rose};
 ghost use Rattle.eco_cli.specs.CommandLine.{IsBadWord};
-ghost use Rattle.eco_cli.specs.MoveCommand.{Settled, Comes, IsRefusal};
+ghost use Rattle.eco_cli.specs.Opens.{Settled};
+ghost use Rattle.eco_cli.specs.MoveCommand.{Comes, IsRefusal};
 ghost use Rattle.eco_cli.specs.Telling.{status_of, line_of, Tells};
 ghost use Rattle.eco_cli.specs.declared.failure.Failure.{Failure};
 ghost use Rattle.eco_cli.specs.declared.failure.Failure.TheVariants.{Words};
@@ -18,8 +19,8 @@ use eco_text::{Sink, Source};
 use std::alloc::Global;
 
 fn work<H: Host>(alloc: Global, words: &[String], host: &mut H) -> Result<u64, Failure>
-    ensures comes { Comes (record { sources = H.sources; left = H.Input.left; taken = H.Output.taken; asked = H.asked; sinks_back = H.sinks_back; refused = H.refused; read_faults = H.read_faults; write_faults = H.write_faults }) host.old host.new (map string_bytes words.now) result }
-    ensures settled { Settled (H.refused host.old) (H.read_faults host.old) (H.write_faults host.old) (H.open_sources host.old) (H.open_sinks host.old) (H.refused host.new) (H.read_faults host.new) (H.write_faults host.new) (H.open_sources host.new) (H.open_sinks host.new) }
+    ensures comes { Comes H.told H.Input.left H.Output.taken host.old host.new (map string_bytes words.now) result }
+    ensures settled { Settled H.told host.old host.new }
 {
     match read_move(words) {
         Ok(asked) => move_pin(alloc, host, &asked),
@@ -38,14 +39,14 @@ pub fn run<H: Host, S: Source, O: Sink>(
     input: &mut S,
     out: &mut O,
 ) -> u8
-    ensures answered { (r : Result ℕ Failure) × Comes (record { sources = H.sources; left = H.Input.left; taken = H.Output.taken; asked = H.asked; sinks_back = H.sinks_back; refused = H.refused; read_faults = H.read_faults; write_faults = H.write_faults }) host.old host.new (map string_bytes words.now) r × Tells (O.taken out.old) (O.taken out.new) (O.faults out.old) (O.faults out.new) (line_of r) (status_of r) result }
-    ensures done { result ≡ 0 → (n : ℕ) × Comes (record { sources = H.sources; left = H.Input.left; taken = H.Output.taken; asked = H.asked; sinks_back = H.sinks_back; refused = H.refused; read_faults = H.read_faults; write_faults = H.write_faults }) host.old host.new (map string_bytes words.now) (Ok n) × (O.taken out.new ≡ append_known (O.taken out.old) (line_of (Ok n))) }
-    ensures refused { result ≡ 1 → (e : Failure) × IsRefusal e × Comes (record { sources = H.sources; left = H.Input.left; taken = H.Output.taken; asked = H.asked; sinks_back = H.sinks_back; refused = H.refused; read_faults = H.read_faults; write_faults = H.write_faults }) host.old host.new (map string_bytes words.now) (Err e) × (O.taken out.new ≡ append_known (O.taken out.old) (line_of (Err e))) }
-    ensures words { result ≡ 2 → (n : ℕ) × Comes (record { sources = H.sources; left = H.Input.left; taken = H.Output.taken; asked = H.asked; sinks_back = H.sinks_back; refused = H.refused; read_faults = H.read_faults; write_faults = H.write_faults }) host.old host.new (map string_bytes words.now) (Err (Words n)) × (O.taken out.new ≡ append_known (O.taken out.old) (line_of (Err (Words n)))) }
+    ensures answered { (r : Result ℕ Failure) × Comes H.told H.Input.left H.Output.taken host.old host.new (map string_bytes words.now) r × Tells (O.taken out.old) (O.taken out.new) (O.faults out.old) (O.faults out.new) (line_of r) (status_of r) result }
+    ensures done { result ≡ 0 → (n : ℕ) × Comes H.told H.Input.left H.Output.taken host.old host.new (map string_bytes words.now) (Ok n) × (O.taken out.new ≡ append_known (O.taken out.old) (line_of (Ok n))) }
+    ensures refused { result ≡ 1 → (e : Failure) × IsRefusal e × Comes H.told H.Input.left H.Output.taken host.old host.new (map string_bytes words.now) (Err e) × (O.taken out.new ≡ append_known (O.taken out.old) (line_of (Err e))) }
+    ensures words { result ≡ 2 → (n : ℕ) × Comes H.told H.Input.left H.Output.taken host.old host.new (map string_bytes words.now) (Err (Words n)) × (O.taken out.new ≡ append_known (O.taken out.old) (line_of (Err (Words n)))) }
     ensures bad_word { (n : ℕ) → IsBadWord (map string_bytes words.now) n → (result ≡ 2) ⊎ ((result ≡ 4) ⊎ (result ≡ 6)) }
-    ensures read { result ≡ 3 → Rose (H.refused host.old) (H.refused host.new) ⊎ Rose (H.read_faults host.old) (H.read_faults host.new) }
-    ensures write { result ≡ 4 → Rose (H.write_faults host.old) (H.write_faults host.new) ⊎ Rose (O.faults out.old) (O.faults out.new) }
-    ensures settled { Settled (H.refused host.old) (H.read_faults host.old) (H.write_faults host.old) (H.open_sources host.old) (H.open_sinks host.old) (H.refused host.new) (H.read_faults host.new) (H.write_faults host.new) (H.open_sources host.new) (H.open_sinks host.new) }
+    ensures read { result ≡ 3 → Rose (H.told.refused host.old) (H.told.refused host.new) ⊎ Rose (H.told.read_faults host.old) (H.told.read_faults host.new) }
+    ensures write { result ≡ 4 → Rose (H.told.write_faults host.old) (H.told.write_faults host.new) ⊎ Rose (O.faults out.old) (O.faults out.new) }
+    ensures settled { Settled H.told host.old host.new }
     ensures later { O.faults out.old ≤ O.faults out.new }
     ensures input { input.new ≡ input.old }
 {

@@ -130,25 +130,18 @@ impl Host for MemoryHost {
     ghost use Rattle.std.specs.Prelude.{Some};
     ghost use Rattle.eco_cli.specs.Laid.{ready};
 
-    ghost sources = { λ h. Some (ready h.sources) };
-
-    ghost sinks = { λ h. Some (ready h.sinks) };
-
-    ghost asked = { λ h. Some h.asked };
-
-    ghost sources_back = { λ h. Some h.sources_back };
-
-    ghost sinks_back = { λ h. Some h.sinks_back };
-
-    ghost refused = { λ h. h.refused };
-
-    ghost read_faults = { λ h. h.read_faults };
-
-    ghost write_faults = { λ h. h.write_faults };
-
-    ghost open_sources = { λ h. h.open_sources };
-
-    ghost open_sinks = { λ h. h.open_sinks };
+    ghost told = { record {
+      sources = λ h. Some (ready h.sources);
+      sinks = λ h. Some (ready h.sinks);
+      asked = λ h. Some h.asked;
+      sources_back = λ h. Some h.sources_back;
+      sinks_back = λ h. Some h.sinks_back;
+      refused = λ h. h.refused;
+      read_faults = λ h. h.read_faults;
+      write_faults = λ h. h.write_faults;
+      open_sources = λ h. h.open_sources;
+      open_sinks = λ h. h.open_sinks;
+    } };
 
     fn source(&mut self, name: &str) -> Result<ByteSource, HostFault> {
         let Ok(open) = new_open(&mut self.opens, OpenKind::Source, name) else {

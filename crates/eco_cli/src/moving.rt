@@ -6,7 +6,8 @@ ghost use Rattle.eco_def.specs.Sections.{IsReadingOf};
 ghost use Rattle.eco_base.specs.Issued.{edited};
 ghost use Rattle.eco_base.specs.Overlays.{IsMadeFor};
 ghost use Rattle.eco_cli.specs.CommandLine.{move_of};
-ghost use Rattle.eco_cli.specs.MoveCommand.{Reading, Planning, Writing, Settled, Ends};
+ghost use Rattle.eco_cli.specs.Opens.{Settled};
+ghost use Rattle.eco_cli.specs.MoveCommand.{Reading, Planning, Writing, Ends};
 
 use crate::failure::Failure;
 use crate::host::Host;
@@ -23,9 +24,9 @@ const LONGEST: usize = 134_217_728;
 
 /// The whole text of the source of that name.
 fn read_text<H: Host>(alloc: Global, host: &mut H, name: &str) -> Result<Vec<u8>, Failure>
-    ensures reading { Reading (record { sources = H.sources; left = H.Input.left; taken = H.Output.taken; asked = H.asked; sinks_back = H.sinks_back; refused = H.refused; read_faults = H.read_faults; write_faults = H.write_faults }) host.old host.new name.now (λ v. v.items) result }
-    ensures settled { Settled (H.refused host.old) (H.read_faults host.old) (H.write_faults host.old) (H.open_sources host.old) (H.open_sinks host.old) (H.refused host.new) (H.read_faults host.new) (H.write_faults host.new) (H.open_sources host.new) (H.open_sinks host.new) }
-    ensures sinks { H.sinks_back host.new ≡ H.sinks_back host.old }
+    ensures reading { Reading H.told H.Input.left H.Output.taken host.old host.new name.now (λ v. v.items) result }
+    ensures settled { Settled H.told host.old host.new }
+    ensures sinks { H.told.sinks_back host.new ≡ H.told.sinks_back host.old }
 {
     let mut source = match host.source(name) {
         Ok(source) => source,
@@ -83,8 +84,8 @@ fn write_text<H: Host>(
 ) -> Result<u64, Failure>
     requires reading { IsReadingOf text.now design.now }
     requires made { IsMadeFor text.now design.now overlay.now }
-    ensures writing { Writing (record { sources = H.sources; left = H.Input.left; taken = H.Output.taken; asked = H.asked; sinks_back = H.sinks_back; refused = H.refused; read_faults = H.read_faults; write_faults = H.write_faults }) host.old host.new name.now (edited text.now 0 overlay.now) result }
-    ensures settled { Settled (H.refused host.old) (H.read_faults host.old) (H.write_faults host.old) (H.open_sources host.old) (H.open_sinks host.old) (H.refused host.new) (H.read_faults host.new) (H.write_faults host.new) (H.open_sources host.new) (H.open_sinks host.new) }
+    ensures writing { Writing H.told H.Input.left H.Output.taken host.old host.new name.now (edited text.now 0 overlay.now) result }
+    ensures settled { Settled H.told host.old host.new }
 {
     let mut sink = match host.sink(name) {
         Ok(sink) => sink,
@@ -101,8 +102,8 @@ fn write_text<H: Host>(
 
 /// Reads the design, moves the pin and writes the issued text.
 pub fn move_pin<H: Host>(alloc: Global, host: &mut H, asked: &MoveWords<'_>) -> Result<u64, Failure>
-    ensures ends { Ends (record { sources = H.sources; left = H.Input.left; taken = H.Output.taken; asked = H.asked; sinks_back = H.sinks_back; refused = H.refused; read_faults = H.read_faults; write_faults = H.write_faults }) host.old host.new (move_of asked.now) result }
-    ensures settled { Settled (H.refused host.old) (H.read_faults host.old) (H.write_faults host.old) (H.open_sources host.old) (H.open_sinks host.old) (H.refused host.new) (H.read_faults host.new) (H.write_faults host.new) (H.open_sources host.new) (H.open_sinks host.new) }
+    ensures ends { Ends H.told H.Input.left H.Output.taken host.old host.new (move_of asked.now) result }
+    ensures settled { Settled H.told host.old host.new }
 {
     let text = read_text(alloc, host, asked.def)?;
     let (design, overlay) = plan(alloc, &text, asked)?;

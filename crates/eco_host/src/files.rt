@@ -37,25 +37,18 @@ impl<'a, R: Files> Host for FileHost<'a, R> {
 
     ghost use Rattle.std.specs.Prelude.{None};
 
-    ghost sources = { λ h. None };
-
-    ghost sinks = { λ h. None };
-
-    ghost asked = { λ h. None };
-
-    ghost sources_back = { λ h. None };
-
-    ghost sinks_back = { λ h. None };
-
-    ghost refused = { λ h. h.refused };
-
-    ghost read_faults = { λ h. h.read_faults };
-
-    ghost write_faults = { λ h. h.write_faults };
-
-    ghost open_sources = { λ h. h.open_sources };
-
-    ghost open_sinks = { λ h. h.open_sinks };
+    ghost told = { record {
+      sources = λ h. None;
+      sinks = λ h. None;
+      asked = λ h. None;
+      sources_back = λ h. None;
+      sinks_back = λ h. None;
+      refused = λ h. h.refused;
+      read_faults = λ h. h.read_faults;
+      write_faults = λ h. h.write_faults;
+      open_sources = λ h. h.open_sources;
+      open_sinks = λ h. h.open_sinks;
+    } };
 
     fn source(&mut self, name: &str) -> Result<ReadSource<R::File>, HostFault> {
         let Some(open) = self.open_sources.checked_add(1) else {
