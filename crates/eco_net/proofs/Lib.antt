@@ -1,0 +1,7 @@
+pub mod Basics
+pub mod Decide
+pub mod Grounded
+pub mod Values
+pub mod One
+pub mod Keys
+pub mod Walks

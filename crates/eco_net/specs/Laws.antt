@@ -1,0 +1,23 @@
+-- What holds of each netlist.
+use Rattle.std.specs.Prelude.{◌≡◌, ℕ, ◌<◌, List}
+use Rattle.eco_net.specs.Netlist.{Name, Netlist, IsWhole}
+use Rattle.eco_net.specs.Drivers.{IsFree}
+use Rattle.eco_net.specs.CutKeys.{CutKey, KeyOf}
+use Rattle.eco_net.specs.Valuation.{HasOneValuation}
+use Rattle.eco_net.specs.Walks.{ReadsNet, IsLoopFree, IsClosedWalk}
+
+-- a loop-free netlist has exactly one valuation for each choice of cut bits
+abbrev pub OneValuation : Type 0
+OneValuation = (N : Netlist) → IsWhole N → IsLoopFree N → HasOneValuation N
+
+-- a free net has exactly one cut key
+abbrev pub OneCutKey : Type 0
+OneCutKey = (N : Netlist) (n : Name) → IsFree N n → (key : CutKey) × KeyOf N n key × ((other : CutKey) → KeyOf N n other → other ≡ key)
+
+-- ranks that rise from each computed net to those that are read from it show that there is no loop
+abbrev pub RanksShow : Type 0
+RanksShow = (N : Netlist) (rank : Name → ℕ) → ((a b : Name) → ReadsNet N a b → rank a < rank b) → IsLoopFree N
+
+-- a reported walk shows that there is one
+abbrev pub WalkShows : Type 0
+WalkShows = (N : Netlist) (nets : List Name) → IsClosedWalk N nets → IsLoopFree N → ⊥
