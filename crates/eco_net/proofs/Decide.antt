@@ -26,15 +26,14 @@ is_on (Some m) n = ⊎_elim (λ e. inl (ap Some e)) (λ a. inr (λ e. a (same_So
 
 -- ---- a list that has every driving pin
 
-names_of : {X : Type 0} → List (Name × X) → List Name
+abbrev pub names_of : {X : Type 0} → List (Name × X) → List Name
 names_of es = map (λ e. e.0) es
 
-comp_pins : List (Name × Component) → List Pin
+abbrev pub comp_pins : List (Name × Component) → List Pin
 comp_pins [] = []
 comp_pins (e ∷ es) = map (CompPin e.0) (names_of (pins_of e.1.kind)) ++ comp_pins es
 
-has_comp_pin : (es : List (Name × Component)) (c : Name) (x : Component) (p : Name) (r : Role) → find name_cmp c es ≡ Some x → role_of x p ≡ Some r → Has (comp_pins es) (CompPin c p)
-unfolding comp_pins names_of
+pub has_comp_pin : (es : List (Name × Component)) (c : Name) (x : Component) (p : Name) (r : Role) → find name_cmp c es ≡ Some x → role_of x p ≡ Some r → Has (comp_pins es) (CompPin c p)
 has_comp_pin [] c x p r e f = absurd (not_None (sym e))
 has_comp_pin (d ∷ es) c x p r e f =
     ⊎_elim
@@ -45,7 +44,7 @@ has_comp_pin (d ∷ es) c x p r e f =
 all_pins : Netlist → List Pin
 all_pins N = map TopPin (keys N.tops) ++ comp_pins (entries N.comps)
 
-driving_role : (o : Option Role) (j : Option Name) (n : Name) → cond (is_driving o) j None ≡ Some n → (r : Role) × (o ≡ Some r)
+pub driving_role : (o : Option Role) (j : Option Name) (n : Name) → cond (is_driving o) j None ≡ Some n → (r : Role) × (o ≡ Some r)
 driving_role None j n e = absurd (not_None (sym e))
 driving_role (Some r) j n e = (r, refl)
 

@@ -5,3 +5,5 @@ pub mod Values
 pub mod One
 pub mod Keys
 pub mod Walks
+pub mod Lists
+mod Examples

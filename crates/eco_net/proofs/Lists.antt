@@ -1,0 +1,167 @@
+-- Netlists that are given by lists: what drives their nets, by computing
+use Rattle.std.proofs.Common.{◌≡◌, ◌≢◌, Bool, true, false, cond, ◌&&◌, List, [], ◌∷◌, ◌++◌, map, Option, Some, None, refl, sym, ap, ◌∙◌, inl, inr, ⊎_elim, ◌⊎◌, true≢false}
+use Rattle.std.specs.Option.{option_map}
+use Rattle.std.specs.Ordering.{eq_by_cmp}
+use Rattle.std.specs.Cmp.{Equal-is}
+use Rattle.std.specs.Cmp.Lexicographic.{nat_list_cmp_total}
+use Rattle.std.specs.FinMap.{get, from_entries, find, get-from_entries}
+use Rattle.eco_text.specs.declared.geometry.Dir.{Dir}
+use Rattle.eco_net.specs.Netlist.{Name, name_cmp, Has, Kind, Netlist, Component, Top, Pin, TopPin, CompPin, Role, Computes, Outside, pins_of, role_of, input_names, inputs_of}
+use Rattle.eco_net.specs.Drivers.{is_driving, driven, driven_at, driven_top, IsDriver, Computed, IsFree}
+use Rattle.eco_net.specs.CutKeys.{PinKey, key_cmp}
+use Rattle.eco_net.proofs.Basics.{same_of_cmp, same_Some, not_None, cmp_itself, has_found, has_append_left, has_append_right, has_map, map_agree}
+use Rattle.eco_net.proofs.Decide.{comp_pins, has_comp_pin, driving_role, gate_is, same_comp}
+use Rattle.eco_net.proofs.Keys.{key_cmp-IsAntisymmetric}
+
+abbrev pub Part : Type 0
+Part = Kind × List (Name × Name)
+
+pub record Lists : Type 0 where
+  pub nets : List (Name × Option Bool)
+  pub comps : List (Name × Part)
+  pub tops : List (Name × Top)
+  pub low : Name
+  pub high : Name
+
+abbrev pub component : Part → Component
+component x = record { kind = x.0; place = None; joined = from_entries x.1 }
+
+abbrev pub components : List (Name × Part) → List (Name × Component)
+components es = map (λ e. (e.0, component e.1)) es
+
+abbrev pub made : Lists → Netlist
+made L = record { nets = from_entries L.nets; comps = from_entries (components L.comps); tops = from_entries L.tops; low = L.low; high = L.high }
+
+-- ---- look-ups
+
+pub net_made : (L : Lists) (n : Name) → get (made L).nets n ≡ find name_cmp n L.nets
+net_made L n = get-from_entries nat_list_cmp_total L.nets n
+
+pub top_made : (L : Lists) (t : Name) → get (made L).tops t ≡ find name_cmp t L.tops
+top_made L t = get-from_entries nat_list_cmp_total L.tops t
+
+found_component : (es : List (Name × Part)) (c : Name) → find name_cmp c (components es) ≡ option_map component (find name_cmp c es)
+found_component [] c = refl
+found_component (e ∷ es) c = go (found_component es c) (eq_by_cmp name_cmp c e.0)
+  where
+    go : find name_cmp c (components es) ≡ option_map component (find name_cmp c es) → (b : Bool) → cond b (Some (component e.1)) (find name_cmp c (components es)) ≡ option_map component (cond b (Some e.1) (find name_cmp c es))
+    go rest true = refl
+    go rest false = rest
+
+pub comp_made : (L : Lists) (c : Name) → get (made L).comps c ≡ option_map component (find name_cmp c L.comps)
+comp_made L c = get-from_entries nat_list_cmp_total (components L.comps) c ∙ found_component L.comps c
+
+pub joined_made : (x : Part) (p : Name) → get (component x).joined p ≡ find name_cmp p x.1
+joined_made x p = get-from_entries nat_list_cmp_total x.1 p
+
+pub inputs_made : (x : Part) → inputs_of (component x) ≡ map (λ p. find name_cmp p x.1) (input_names x.0)
+inputs_made x = map_agree _ _ (input_names x.0) (λ p h. joined_made x p)
+
+-- ---- what a pin drives
+
+abbrev pub drives_at : Option Part → Name → Option Name
+drives_at None p = None
+drives_at (Some x) p = cond (is_driving (find name_cmp p (pins_of x.0))) (find name_cmp p x.1) None
+
+abbrev pub drives_in : Lists → Pin → Option Name
+drives_in L (TopPin t) = driven_top (find name_cmp t L.tops)
+drives_in L (CompPin c p) = drives_at (find name_cmp c L.comps) p
+
+part_drives : (o : Option Part) (p : Name) → driven_at (option_map component o) p ≡ drives_at o p
+part_drives None p = refl
+part_drives (Some x) p = ap (λ j. cond (is_driving (role_of (component x) p)) j None) (joined_made x p)
+
+pub driven_made : (L : Lists) (q : Pin) → driven (made L) q ≡ drives_in L q
+driven_made L (TopPin t) = ap driven_top (top_made L t)
+driven_made L (CompPin c p) = ap (λ o. driven_at o p) (comp_made L c) ∙ part_drives (find name_cmp c L.comps) p
+
+abbrev pub all_in : Lists → List Pin
+all_in L = map TopPin (map (λ e. e.0) L.tops) ++ comp_pins (components L.comps)
+
+top_in : (L : Lists) (t n : Name) (o : Option Top) → get (made L).tops t ≡ o → driven_top o ≡ Some n → Has (map (λ e. e.0) L.tops) t
+top_in L t n None e d = absurd (not_None (sym d))
+top_in L t n (Some x) e d = has_found L.tops t x (sym (top_made L t) ∙ e)
+
+comp_in : (L : Lists) (c p n : Name) (o : Option Component) → get (made L).comps c ≡ o → driven_at o p ≡ Some n → Has (comp_pins (components L.comps)) (CompPin c p)
+comp_in L c p n None e d = absurd (not_None (sym d))
+comp_in L c p n (Some x) e d =
+    let r = driving_role (role_of x p) (get x.joined p) n d in
+    has_comp_pin (components L.comps) c x p r.0 (sym (get-from_entries nat_list_cmp_total (components L.comps) c) ∙ e) r.1
+
+has_in : (L : Lists) (q : Pin) (n : Name) → driven (made L) q ≡ Some n → Has (all_in L) q
+has_in L (TopPin t) n d = has_append_left _ _ _ (has_map TopPin _ t (top_in L t n _ refl d))
+has_in L (CompPin c p) n d = has_append_right (map TopPin (map (λ e. e.0) L.tops)) _ _ (comp_in L c p n _ refl d)
+
+-- ---- the one driver
+
+abbrev pub is_at : Option Name → Name → Bool
+is_at None n = false
+is_at (Some m) n = eq_by_cmp name_cmp m n
+
+abbrev pub is_pin : Pin → Pin → Bool
+is_pin p q = eq_by_cmp key_cmp (PinKey p) (PinKey q)
+
+-- of these pins only p drives n
+abbrev pub only_by : Lists → Name → Pin → List Pin → Bool
+only_by L n p [] = true
+only_by L n p (q ∷ qs) = cond (is_at (drives_in L q) n) (is_pin q p) true && only_by L n p qs
+
+pin_of_key : {p q : Pin} → PinKey p ≡ PinKey q → p ≡ q
+pin_of_key e = cc
+
+same_by : (p q : Pin) → is_pin p q ≡ true → p ≡ q
+same_by p q e = pin_of_key (key_cmp-IsAntisymmetric (PinKey p) (PinKey q) ((Equal-is (key_cmp (PinKey p) (PinKey q))).0 e))
+
+first_so : (b c : Bool) → (b && c) ≡ true → b ≡ true
+first_so true c e = refl
+first_so false c e = e
+
+second_so : (b c : Bool) → (b && c) ≡ true → c ≡ true
+second_so true c e = e
+second_so false c e = absurd (true≢false (sym e))
+
+at_itself : (o : Option Name) (n : Name) → o ≡ Some n → is_at o n ≡ true
+at_itself o n e = ap (λ o. is_at o n) e ∙ cmp_itself n
+
+only_has : (L : Lists) (n : Name) (p : Pin) (qs : List Pin) → only_by L n p qs ≡ true → (q : Pin) → Has qs q → drives_in L q ≡ Some n → q ≡ p
+only_has L n p [] e q h d = absurd h
+only_has L n p (x ∷ qs) e q (inl s) d =
+    same_by q p (ap (λ x. is_pin x p) (sym s)
+        ∙ sym (ap (λ b. cond b (is_pin x p) true) (at_itself (drives_in L x) n (ap (drives_in L) s ∙ d)))
+        ∙ first_so _ _ e)
+only_has L n p (x ∷ qs) e q (inr h) d = only_has L n p qs (second_so (cond (is_at (drives_in L x) n) (is_pin x p) true) _ e) q h d
+
+pub driver_by : (L : Lists) (n : Name) (p : Pin) → drives_in L p ≡ Some n → only_by L n p (all_in L) ≡ true → IsDriver (made L) n p
+driver_by L n p d e = record {
+  drives = driven_made L p ∙ d;
+  only = λ q h. only_has L n p (all_in L) e q (has_in L q n h) (sym (driven_made L q) ∙ h);
+}
+
+-- ---- computed and free nets
+
+pub computed_by : (L : Lists) (n c p : Name) (x : Part) (table : List Bool) → find name_cmp n L.nets ≡ Some None → IsDriver (made L) n (CompPin c p) → find name_cmp c L.comps ≡ Some x → find name_cmp p (pins_of x.0) ≡ Some (Computes table) → Computed (made L) n table (map (λ i. find name_cmp i x.1) (input_names x.0))
+computed_by L n c p x table u d e f = record {
+  unsupplied = net_made L n ∙ u;
+  comp = c;
+  pin = p;
+  gate = component x;
+  is = comp_made L c ∙ ap (option_map component) e;
+  driver = d;
+  at = f;
+  reads = inputs_made x;
+}
+
+pub free_top : (N : Netlist) (n t : Name) → get N.nets n ≡ Some None → IsDriver N n (TopPin t) → IsFree N n
+free_top N n t u d = (u, λ m. let e : CompPin m.2.comp m.2.pin ≡ TopPin t = d.only (CompPin m.2.comp m.2.pin) m.2.driver.drives in cc)
+
+not_computes : {t : List Bool} {d : Dir} → Some (Outside d) ≡ Some (Computes t) → ⊥
+not_computes e = cc
+
+pub free_box : (N : Netlist) (n c p : Name) (x : Component) (d : Dir) → get N.nets n ≡ Some None → IsDriver N n (CompPin c p) → get N.comps c ≡ Some x → role_of x p ≡ Some (Outside d) → IsFree N n
+free_box N n c p x d u driver e r = (u, λ m.
+    let g = gate_is N n m.0 m.1 m.2 c p x driver e in
+    let h : role_of x p ≡ Some (Computes m.0) = ap (λ y. role_of y p) (sym g.0) ∙ ap (role_of m.2.gate) (sym g.1) ∙ m.2.at in
+    not_computes (sym r ∙ h))
+
+pub free_several : (N : Netlist) (n : Name) (p q : Pin) → get N.nets n ≡ Some None → driven N p ≡ Some n → driven N q ≡ Some n → p ≢ q → IsFree N n
+free_several N n p q u d e a = (u, λ m. a (m.2.driver.only p d ∙ sym (m.2.driver.only q e)))
