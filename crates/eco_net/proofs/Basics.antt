@@ -15,6 +15,9 @@ same_Some e = cc
 pub not_None : {A : Type 0} {x : A} → Some x ≡ None → ⊥
 not_None e = cc
 
+pub same_head : {A : Type 0} {x y : A} {xs ys : List A} → x ∷ xs ≡ y ∷ ys → x ≡ y
+same_head e = cc
+
 -- ---- names
 
 pub same_of_cmp : (a b : Name) → eq_by_cmp name_cmp a b ≡ true → a ≡ b

@@ -1,17 +1,23 @@
 -- A small netlist by computing the definitions: a half adder with a table for each of its two outputs, whose one input is the
 -- chip's and whose other is a register's, so a box's; a supply as the low tie net, a gate without inputs behind the high one;
 -- and an inverter whose input is on no net and whose output meets an INOUT pin of the chip.
-use Rattle.std.proofs.Common.{◌≡◌, ◌≢◌, ℕ, zero, suc, ◌<◌, Bool, true, false, List, [], ◌∷◌, map, Option, Some, None, refl, sym, ap, ap₂, ◌∙◌, subst, inl, inr, ⊎_elim, ◌⊎◌, codes, true≢false}
+use Rattle.std.proofs.Common.{◌≡◌, ◌≢◌, ℕ, zero, suc, ◌<◌, Bool, true, false, List, [], ◌∷◌, map, Option, Some, None, refl, sym, ap, ap₂, ◌∙◌, subst, inl, inr, ⊎_elim, ◌⊎◌, codes, true≢false, arith}
+use Rattle.std.specs.Prelude.{slice_index_or}
 use Rattle.std.specs.Option.{unwrap_or, option_map}
 use Rattle.std.specs.FinMap.{get, find}
 use Rattle.eco_text.specs.declared.geometry.Dir.{Dir}
 use Rattle.eco_text.specs.declared.geometry.Dir.TheVariants.{Input, Output, Inout}
 use Rattle.eco_net.specs.Netlist.{Name, name_cmp, Has, Kind, Gate, Boxed, Netlist, Component, Top, Pin, TopPin, CompPin, Computes, Outside, IsNet, IsWhole, pins_of, role_of, inputs_of}
-use Rattle.eco_net.specs.Drivers.{driven, IsDriver, Computed, IsComputed, IsFree}
+use Rattle.eco_net.specs.Drivers.{driven, IsDriver, Computed, IsComputed, IsFree, IsSink, joined_at}
+use Rattle.eco_net.specs.Walks.{ReadsNet, IsLoopFree}
+use Rattle.eco_net.specs.Depth.{IsDepth, IsGate, Behind}
 use Rattle.eco_net.specs.CutKeys.{CutKey, PinKey, NetKey, KeyOf, IsCutKey, CutBits, is_source_pin, is_source_at, is_source_top, is_source}
 use Rattle.eco_net.specs.Observables.{IsObservable, ObservedTop, ObservedAt, ObservedRole, observed, value_at, value_by_role, value_top}
-use Rattle.eco_net.specs.Valuation.{Valuation, IsValuation, look, read, row}
-use Rattle.eco_net.proofs.Lists.{Part, Lists, made, component, driver_by, driven_made, net_made, top_made, comp_made, joined_made, inputs_made, computed_by, free_top, free_box, free_several}
+use Rattle.eco_net.specs.Valuation.{Valuation, IsValuation, HasOneValuation, look, read, row}
+use Rattle.eco_net.proofs.Lists.{Part, Lists, made, component, driver_by, driven_made, net_made, top_made, comp_made, joined_made, inputs_made, computed_by, free_top, free_box, free_several, EachReads, reads_by, whole_by}
+use Rattle.eco_net.proofs.Basics.{same_Some, not_None, same_head}
+use Rattle.eco_net.proofs.Decide.{same_comp}
+use Rattle.eco_net.proofs.One.{one_valuation}
 
 -- ---- rows
 
@@ -29,6 +35,18 @@ nand = refl
 -- A NOT B: with A alone the row is 1
 and_not : look (false ∷ true ∷ false ∷ false ∷ []) (true ∷ false ∷ []) ≡ true
 and_not = refl
+
+-- with the last bit lowest it would be row 2, where A NOT B is 0
+row_from_last : List Bool → ℕ
+row_from_last bs = row (reversed bs [])
+  where
+    reversed : List Bool → List Bool → List Bool
+    reversed [] ys = ys
+    reversed (x ∷ xs) ys = reversed xs (x ∷ ys)
+
+not_from_last : slice_index_or (false ∷ true ∷ false ∷ false ∷ []) (row_from_last (true ∷ false ∷ [])) false ≢ look (false ∷ true ∷ false ∷ false ∷ []) (true ∷ false ∷ [])
+unfolding row_from_last
+not_from_last e = true≢false (sym e)
 
 -- ---- the netlist
 
@@ -152,6 +170,56 @@ not_at_adder h = (subst (λ n. ObservedRole N (Some (Computes (false ∷ true �
 -- nor is an output of a box
 not_at_output : IsObservable N (CompPin (codes "r1") (codes "Q")) → ⊥
 not_at_output h = subst (λ o. ObservedAt N o (codes "Q")) (comp_made lists (codes "r1")) h
+
+-- ---- it is whole, without loops and one gate deep
+
+whole : IsWhole N
+whole = whole_by lists refl refl
+
+not_computed : EachReads (λ n. IsComputed N n → ⊥) lists.comps
+not_computed = (both, (none, (none, (one, tt))))
+  where
+    both : (n : Name) → Has (Some (codes "a") ∷ Some (codes "q") ∷ []) (Some n) → IsComputed N n → ⊥
+    both n (inl e) m = a_free.1 (subst (IsComputed N) (sym (same_Some e)) m)
+    both n (inr (inl e)) m = q_free.1 (subst (IsComputed N) (sym (same_Some e)) m)
+    both n (inr (inr h)) m = h
+    none : (n : Name) → Has [] (Some n) → IsComputed N n → ⊥
+    none n h m = h
+    one : (n : Name) → Has (None ∷ []) (Some n) → IsComputed N n → ⊥
+    one n (inl e) m = not_None (sym e)
+    one n (inr h) m = h
+
+no_reads : (a b : Name) → ReadsNet N a b → ⊥
+no_reads a b r = reads_by lists (λ n. IsComputed N n → ⊥) not_computed r.to.comp r.to.gate r.to.is a (subst (λ ins. Has ins (Some a)) (sym r.to.reads) r.reads) r.from
+
+loop_free : IsLoopFree N
+loop_free a k w = no_reads w.0 a w.2
+
+has_one_valuation : HasOneValuation N
+has_one_valuation = one_valuation N loop_free
+
+one_deep : IsDepth N 1
+one_deep = record {
+  reached = inr (codes "u1", record { gate = component half_adder; inputs = _; outputs = _; is = comp_made lists (codes "u1"); kind = refl }, 0, refl, tt);
+  greatest = λ c k g b. at_most c k b;
+}
+  where
+    at_most : (c : Name) (k : ℕ) → Behind N c k → k < 1
+    at_most c zero b = omega arith
+    at_most c (suc k) b = let f = b.1 in absurd (reads_by lists (λ n. IsComputed N n → ⊥) not_computed c f.gate f.is f.net f.reads (f.table, f.inputs, f.computed))
+
+-- the register's input is a sink of the sum, the half adder's output is not
+register_sink : IsSink N (codes "sum") (CompPin (codes "r1") (codes "D"))
+register_sink = (
+  ap (λ o. joined_at o (codes "D")) (comp_made lists (codes "r1")) ∙ joined_made register (codes "D"),
+  λ d. let e : CompPin (codes "r1") (codes "D") ≡ CompPin (codes "u1") (codes "S") = sum_driver.only _ d.drives in r1_not_u1 (same_comp e),
+)
+  where
+    r1_not_u1 : codes "r1" ≡ codes "u1" → ⊥
+    r1_not_u1 e = let f : 114 ≡ 117 = same_head {xs = 49 ∷ []} {ys = 49 ∷ []} e in omega (arith, f)
+
+adder_no_sink : IsSink N (codes "sum") (CompPin (codes "u1") (codes "S")) → ⊥
+adder_no_sink s = s.1 sum_driver
 
 -- ---- values
 

@@ -1,11 +1,11 @@
--- A free net has exactly one cut key, and keys are ordered by their names
-use Rattle.std.proofs.Common.{◌≡◌, Bool, List, [], ◌∷◌, Option, Some, None, refl, sym, ap, ap₂, ◌∙◌}
+-- What kind of net each is; a free net has exactly one cut key, and keys are ordered by their names
+use Rattle.std.proofs.Common.{◌≡◌, Bool, List, [], ◌∷◌, Option, Some, None, refl, sym, ap, ap₂, ◌∙◌, inl, inr, ◌⊎◌}
 use Rattle.std.specs.Cmp.{IsTotalOrder, on_total}
 use Rattle.std.specs.Cmp.Lexicographic.{nat_list_cmp_total, lists_total}
 use Rattle.std.specs.FinMap.{IsAntisymmetric, slice_cmp-IsAntisymmetric, get}
 use Rattle.std.proofs.lemmas.Map.Lookups.{exact_bytes}
-use Rattle.eco_net.specs.Netlist.{Name, Netlist, Pin, TopPin, CompPin}
-use Rattle.eco_net.specs.Drivers.{IsFree}
+use Rattle.eco_net.specs.Netlist.{Name, Netlist, Pin, TopPin, CompPin, IsNet}
+use Rattle.eco_net.specs.Drivers.{IsComputed, IsFree}
 use Rattle.eco_net.specs.CutKeys.{CutKey, PinKey, NetKey, KeyOf, key_cmp, key_names}
 use Rattle.eco_net.proofs.Basics.{same_Some, not_None}
 use Rattle.eco_net.proofs.Decide.{Shape, supply_net, computed_net, free_net, no_net, shape}
@@ -19,6 +19,15 @@ one_cut_key N n f = go (shape N n)
     go (computed_net table ins c) = absurd (f.1 (table, ins, c))
     go (supply_net b e) = absurd (not_None (sym (same_Some (sym f.0 ∙ e))))
     go (no_net e) = absurd (not_None (sym f.0 ∙ e))
+
+pub each_net : (N : Netlist) (n : Name) → IsNet N n → ((b : Bool) × (get N.nets n ≡ Some (Some b))) ⊎ (IsComputed N n ⊎ IsFree N n)
+each_net N n i = go (shape N n)
+  where
+    go : Shape N n → ((b : Bool) × (get N.nets n ≡ Some (Some b))) ⊎ (IsComputed N n ⊎ IsFree N n)
+    go (supply_net b e) = inl (b, e)
+    go (computed_net table ins c) = inr (inl (table, ins, c))
+    go (free_net key f k) = inr (inr f)
+    go (no_net e) = absurd (not_None (sym i.1 ∙ e))
 
 pub key_cmp_total : IsTotalOrder key_cmp
 key_cmp_total = on_total key_names (lists_total nat_list_cmp_total)

@@ -5,5 +5,7 @@ pub mod Values
 pub mod One
 pub mod Keys
 pub mod Walks
+pub mod Depths
 pub mod Lists
 mod Examples
+mod Loops

@@ -1,15 +1,15 @@
 -- Netlists that are given by lists: what drives their nets, by computing
-use Rattle.std.proofs.Common.{◌≡◌, ◌≢◌, Bool, true, false, cond, ◌&&◌, List, [], ◌∷◌, ◌++◌, map, Option, Some, None, refl, sym, ap, ◌∙◌, inl, inr, ⊎_elim, ◌⊎◌, true≢false}
+use Rattle.std.proofs.Common.{◌≡◌, ◌≢◌, Bool, true, false, cond, ◌&&◌, List, [], ◌∷◌, ◌++◌, map, Option, Some, None, refl, sym, ap, ◌∙◌, inl, inr, ⊎_elim, ◌⊎◌, true≢false, is_some, subst}
 use Rattle.std.specs.Option.{option_map}
 use Rattle.std.specs.Ordering.{eq_by_cmp}
 use Rattle.std.specs.Cmp.{Equal-is}
 use Rattle.std.specs.Cmp.Lexicographic.{nat_list_cmp_total}
 use Rattle.std.specs.FinMap.{get, from_entries, find, get-from_entries}
 use Rattle.eco_text.specs.declared.geometry.Dir.{Dir}
-use Rattle.eco_net.specs.Netlist.{Name, name_cmp, Has, Kind, Netlist, Component, Top, Pin, TopPin, CompPin, Role, Computes, Outside, pins_of, role_of, input_names, inputs_of}
+use Rattle.eco_net.specs.Netlist.{Name, name_cmp, Has, Kind, Netlist, Component, Top, Pin, TopPin, CompPin, Role, Computes, Outside, pins_of, role_of, input_names, inputs_of, IsNet, IsWhole}
 use Rattle.eco_net.specs.Drivers.{is_driving, driven, driven_at, driven_top, IsDriver, Computed, IsFree}
 use Rattle.eco_net.specs.CutKeys.{PinKey, key_cmp}
-use Rattle.eco_net.proofs.Basics.{same_of_cmp, same_Some, not_None, cmp_itself, has_found, has_append_left, has_append_right, has_map, map_agree}
+use Rattle.eco_net.proofs.Basics.{same_of_cmp, same_Some, not_None, cmp_itself, has_found, has_append_left, has_append_right, has_map, map_agree, find_first, find_rest, same_name}
 use Rattle.eco_net.proofs.Decide.{comp_pins, has_comp_pin, driving_role, gate_is, same_comp}
 use Rattle.eco_net.proofs.Keys.{key_cmp-IsAntisymmetric}
 
@@ -165,3 +165,72 @@ free_box N n c p x d u driver e r = (u, λ m.
 
 pub free_several : (N : Netlist) (n : Name) (p q : Pin) → get N.nets n ≡ Some None → driven N p ≡ Some n → driven N q ≡ Some n → p ≢ q → IsFree N n
 free_several N n p q u d e a = (u, λ m. a (m.2.driver.only p d ∙ sym (m.2.driver.only q e)))
+
+-- ---- what a component reads, and the nets that it is on
+
+-- P holds of each net that a gate reads
+abbrev pub EachReads : (Name → Type 0) → List (Name × Part) → Type 0
+EachReads P [] = Unit {0}
+EachReads P (e ∷ es) = ((a : Name) → Has (map (λ p. find name_cmp p e.1.1) (input_names e.1.0)) (Some a) → P a) × EachReads P es
+
+part_of : (L : Lists) (c : Name) (gate : Component) → get (made L).comps c ≡ Some gate → (x : Part) × (find name_cmp c L.comps ≡ Some x) × (component x ≡ gate)
+part_of L c gate e = go (find name_cmp c L.comps) refl
+  where
+    go : (o : Option Part) → find name_cmp c L.comps ≡ o → (x : Part) × (find name_cmp c L.comps ≡ Some x) × (component x ≡ gate)
+    go None f = absurd (not_None (sym (sym (comp_made L c ∙ ap (option_map component) f) ∙ e)))
+    go (Some x) f = (x, f, same_Some (sym (comp_made L c ∙ ap (option_map component) f) ∙ e))
+
+part_reads : (P : Name → Type 0) (es : List (Name × Part)) (c : Name) (x : Part) → EachReads P es → find name_cmp c es ≡ Some x → (a : Name) → Has (map (λ p. find name_cmp p x.1) (input_names x.0)) (Some a) → P a
+part_reads P [] c x each e a h = absurd (not_None (sym e))
+part_reads P (d ∷ es) c x each e a h =
+    ⊎_elim
+    (λ s. each.0 a (subst (λ y. Has (map (λ p. find name_cmp p y.1) (input_names y.0)) (Some a)) (sym (same_Some (find_first d es c s e))) h))
+    (λ n. part_reads P es c x each.1 (find_rest d es c n e) a h)
+    (same_name c d.0)
+
+pub reads_by : (L : Lists) (P : Name → Type 0) → EachReads P L.comps → (c : Name) (gate : Component) → get (made L).comps c ≡ Some gate → (a : Name) → Has (inputs_of gate) (Some a) → P a
+reads_by L P each c gate e a h =
+    let x = part_of L c gate e in
+    part_reads P L.comps c x.0 each x.1 a (subst (λ ins. Has ins (Some a)) (ap inputs_of (sym x.2) ∙ inputs_made x.0) h)
+
+-- each of these names is a net
+abbrev pub are_nets : Lists → List Name → Bool
+are_nets L [] = true
+are_nets L (n ∷ ns) = is_some (find name_cmp n L.nets) && are_nets L ns
+
+abbrev pub all_joined : List (Name × Part) → List Name
+all_joined [] = []
+all_joined (e ∷ es) = map (λ j. j.1) e.1.1 ++ all_joined es
+
+net_by : (L : Lists) (ns : List Name) (n : Name) → are_nets L ns ≡ true → Has ns n → IsNet (made L) n
+net_by L [] n e h = absurd h
+net_by L (m ∷ ns) n e (inl s) = subst (IsNet (made L)) s (go (find name_cmp m L.nets) refl)
+  where
+    go : (o : Option (Option Bool)) → find name_cmp m L.nets ≡ o → IsNet (made L) m
+    go None f = absurd (true≢false (sym (first_so _ _ e) ∙ ap is_some f))
+    go (Some x) f = (x, net_made L m ∙ f)
+net_by L (m ∷ ns) n e (inr h) = net_by L ns n (second_so (is_some (find name_cmp m L.nets)) _ e) h
+
+has_value : {X : Type 0} (es : List (Name × X)) (q : Name) (x : X) → find name_cmp q es ≡ Some x → Has (map (λ e. e.1) es) x
+has_value [] q x e = absurd (not_None (sym e))
+has_value (d ∷ es) q x e = ⊎_elim (λ s. inl (same_Some (find_first d es q s e))) (λ n. inr (has_value es q x (find_rest d es q n e))) (same_name q d.0)
+
+part_joined : (es : List (Name × Part)) (c : Name) (x : Part) (p n : Name) → find name_cmp c es ≡ Some x → find name_cmp p x.1 ≡ Some n → Has (all_joined es) n
+part_joined [] c x p n e f = absurd (not_None (sym e))
+part_joined (d ∷ es) c x p n e f =
+    ⊎_elim
+    (λ s. has_append_left _ _ _ (subst (λ y. Has (map (λ j. j.1) y.1) n) (sym (same_Some (find_first d es c s e))) (has_value x.1 p n f)))
+    (λ a. has_append_right (map (λ j. j.1) d.1.1) _ _ (part_joined es c x p n (find_rest d es c a e) f))
+    (same_name c d.0)
+
+pub whole_by : (L : Lists) → are_nets L (all_joined L.comps) ≡ true → are_nets L (map (λ e. e.1.net) L.tops) ≡ true → IsWhole (made L)
+whole_by L e f = record {
+  pins = λ c x p n g h.
+      let y = part_of L c x g in
+      net_by L (all_joined L.comps) n e (part_joined L.comps c y.0 p n y.1 (sym (joined_made y.0 p) ∙ ap (λ z. get z.joined p) y.2 ∙ h));
+  tops = λ t x g. net_by L (map (λ e. e.1.net) L.tops) x.net f (has_top_net L.tops t x (sym (top_made L t) ∙ g));
+}
+  where
+    has_top_net : (es : List (Name × Top)) (t : Name) (x : Top) → find name_cmp t es ≡ Some x → Has (map (λ e. e.1.net) es) x.net
+    has_top_net [] t x e = absurd (not_None (sym e))
+    has_top_net (d ∷ es) t x e = ⊎_elim (λ s. inl (ap (λ z. z.net) (same_Some (find_first d es t s e)))) (λ n. inr (has_top_net es t x (find_rest d es t n e))) (same_name t d.0)

@@ -17,24 +17,18 @@ use Rattle.eco_net.proofs.Values.{Solves, at, reads_agree, value, solves, one_ke
 
 -- ---- no other
 
--- what a computed net's gate reads is a net
-pub input_is_net : (N : Netlist) → IsWhole N → (n : Name) (table : List Bool) (ins : List (Option Name)) → Computed N n table ins → (a : Name) → Has ins (Some a) → IsNet N a
-input_is_net N whole n table ins c a h =
-    let p = has_of_map (get c.gate.joined) (input_names c.gate.kind) (Some a) (subst (λ xs. Has xs (Some a)) (sym c.reads) h) in
-    whole.pins c.comp c.gate p.0 a c.is p.2
+module _ (N : Netlist) (bits : CutKey → Bool) (v w : Name → Bool) (a : Solves N bits v) (b : Solves N bits w) where
+  agree_by : (n : Name) (s : Shape N n) → ((table : List Bool) (ins : List (Option Name)) → Computed N n table ins → v n ≡ w n) → v n ≡ w n
+  agree_by n (supply_net d e) h = a.supplied n d e ∙ sym (b.supplied n d e)
+  agree_by n (computed_net table ins c) h = h table ins c
+  agree_by n (free_net key f k) h = a.free n key f k ∙ sym (b.free n key f k)
+  agree_by n (no_net e) h = a.none n e ∙ sym (b.none n e)
 
-module _ (N : Netlist) (whole : IsWhole N) (bits : CutKey → Bool) (v w : Name → Bool) (a : Solves N bits v) (b : Solves N bits w) where
-  agree_by : (n : Name) (s : Shape N n) → IsNet N n → ((table : List Bool) (ins : List (Option Name)) → Computed N n table ins → v n ≡ w n) → v n ≡ w n
-  agree_by n (supply_net d e) i h = a.supplied n d e ∙ sym (b.supplied n d e)
-  agree_by n (computed_net table ins c) i h = h table ins c
-  agree_by n (free_net key f k) i h = a.free n key f k ∙ sym (b.free n key f k)
-  agree_by n (no_net e) i h = absurd (not_None (sym i.1 ∙ e))
-
-  same_value : (n : Name) → Grounded N n → IsNet N n → v n ≡ w n
-  same_value n (grounded below) i = agree_by n (shape N n) i (λ table ins c.
+  same_value : (n : Name) → Grounded N n → v n ≡ w n
+  same_value n (grounded below) = agree_by n (shape N n) (λ table ins c.
       a.computed n table ins c
-      ∙ ap (look table) (reads_agree N bits v w ins (λ m h. agree_by m (shape N m) (input_is_net N whole n table ins c m h) (λ t j d.
-      same_value m (below m (record { from = (t, j, d); table = table; inputs = ins; to = c; reads = h })) (input_is_net N whole n table ins c m h))))
+      ∙ ap (look table) (reads_agree N bits v w ins (λ m h. agree_by m (shape N m) (λ t j d.
+      same_value m (below m (record { from = (t, j, d); table = table; inputs = ins; to = c; reads = h })))))
       ∙ sym (b.computed n table ins c))
 
 -- ---- the values of a map, and a map of values
@@ -58,7 +52,12 @@ valuation_solves N cut v a = record {
   supplied = λ n b e. ap (λ o. unwrap_or o false) (a.supplied n b e);
   free = λ n key f k. ap (λ o. unwrap_or o false) (a.free n key f k);
   computed = λ n table ins c. ap (λ o. unwrap_or o false) (a.computed n table ins c) ∙ ap (look table) (read_at v (bit v) (λ m. refl) ins);
+  none = λ n e. no_bit (get v n) (a.keys n ∙ ap is_some e);
 }
+  where
+    no_bit : (o : Option Bool) → is_some o ≡ false → unwrap_or o false ≡ false
+    no_bit None e = refl
+    no_bit (Some b) e = absurd (true≢false e)
 
 abbrev valued : (Name → Bool) → List (Name × Option Bool) → List (Name × Bool)
 valued f es = map (λ e. (e.0, f e.0)) es
@@ -92,24 +91,22 @@ some_bit (Some b) e = refl
 bit_of_key : (N : Netlist) (cut : CutBits) (n : Name) (key : CutKey) → IsChoice N cut → IsFree N n → KeyOf N n key → get cut key ≡ Some (chosen cut key)
 bit_of_key N cut n key c f k = some_bit (get cut key) ((c key).0 (n, f, k))
 
-solution_values : (N : Netlist) (cut : CutBits) (f : Name → Bool) → IsWhole N → IsChoice N cut → Solves N (chosen cut) f → IsValuation N cut (map_of N f)
-solution_values N cut f whole choice s = record {
+solution_values : (N : Netlist) (cut : CutBits) (f : Name → Bool) → IsChoice N cut → Solves N (chosen cut) f → IsValuation N cut (map_of N f)
+solution_values N cut f choice s = record {
   keys = λ n. ap is_some (value_of N f n) ∙ some_keys (contains_key N.nets n) (f n);
   supplied = λ n b e. value_at N f n (Some b) e ∙ ap Some (s.supplied n b e);
   free = λ n key g k. value_at N f n None g.0 ∙ ap Some (s.free n key g k) ∙ sym (bit_of_key N cut n key choice g k);
   computed = λ n table ins c.
       value_at N f n None c.unsupplied
-      ∙ ap Some (s.computed n table ins c ∙ ap (look table) (sym (map_agree (read (map_of N f)) (at f) ins (go n table ins c))));
+      ∙ ap Some (s.computed n table ins c ∙ ap (look table) (sym (read_at (map_of N f) f (λ a. go a (get N.nets a) refl) ins)));
 }
   where
-    go : (n : Name) (table : List Bool) (ins : List (Option Name)) → Computed N n table ins → (x : Option Name) → Has ins x → read (map_of N f) x ≡ at f x
-    go n table ins c None i = refl
-    go n table ins c (Some a) i =
-        let net = input_is_net N whole n table ins c a i in
-        ap (λ o. unwrap_or o false) (value_at N f a net.0 net.1)
+    go : (a : Name) (o : Option (Option Bool)) → get N.nets a ≡ o → bit (map_of N f) a ≡ f a
+    go a (Some x) e = ap (λ o. unwrap_or o false) (value_at N f a x e)
+    go a None e = ap (λ o. unwrap_or o false) (value_of N f a ∙ ap (λ o. cond (is_some o) (Some (f a)) None) e) ∙ sym (s.none a e)
 
 -- two maps with the same keys and the same bits at nets
-same_at : (N : Netlist) (v w : Valuation) (n : Name) → contains_key v n ≡ contains_key N.nets n → contains_key w n ≡ contains_key N.nets n → (IsNet N n → bit w n ≡ bit v n) → get w n ≡ get v n
+same_at : (N : Netlist) (v w : Valuation) (n : Name) → contains_key v n ≡ contains_key N.nets n → contains_key w n ≡ contains_key N.nets n → (bit w n ≡ bit v n) → get w n ≡ get v n
 same_at N v w n a b h = go (get N.nets n) refl (get w n) refl (get v n) refl
   where
     go : (o : Option (Option Bool)) → get N.nets n ≡ o → (p : Option Bool) → get w n ≡ p → (q : Option Bool) → get v n ≡ q → p ≡ q
@@ -118,15 +115,14 @@ same_at N v w n a b h = go (get N.nets n) refl (get w n) refl (get v n) refl
     go None e None f (Some y) g = absurd (true≢false (sym (ap is_some g) ∙ a ∙ ap is_some e))
     go (Some s) e None f q g = absurd (true≢false (sym (ap is_some e) ∙ sym b ∙ ap is_some f))
     go (Some s) e (Some x) f None g = absurd (true≢false (sym (ap is_some e) ∙ sym a ∙ ap is_some g))
-    go (Some s) e (Some x) f (Some y) g = ap Some (sym (ap (λ o. unwrap_or o false) f) ∙ h (s, e) ∙ ap (λ o. unwrap_or o false) g)
+    go (Some s) e (Some x) f (Some y) g = ap Some (sym (ap (λ o. unwrap_or o false) f) ∙ h ∙ ap (λ o. unwrap_or o false) g)
 
-one_of : (N : Netlist) (cut : CutBits) (v w : Valuation) → IsWhole N → IsLoopFree N → IsValuation N cut v → IsValuation N cut w → w ≡ v
-one_of N cut v w whole free a b = same_map nat_list_cmp_total exact_bytes w v (λ n.
-    same_at N v w n (a.keys n) (b.keys n) (λ i.
-    same_value N whole (chosen cut) (bit w) (bit v) (valuation_solves N cut w b) (valuation_solves N cut v a) n (all_grounded N free n) i))
+one_of : (N : Netlist) (cut : CutBits) (v w : Valuation) → IsLoopFree N → IsValuation N cut v → IsValuation N cut w → w ≡ v
+one_of N cut v w free a b = same_map nat_list_cmp_total exact_bytes w v (λ n.
+    same_at N v w n (a.keys n) (b.keys n) (same_value N (chosen cut) (bit w) (bit v) (valuation_solves N cut w b) (valuation_solves N cut v a) n (all_grounded N free n)))
 
-pub one_valuation : (N : Netlist) → IsWhole N → IsLoopFree N → HasOneValuation N
-one_valuation N whole free cut choice =
+pub one_valuation : (N : Netlist) → IsLoopFree N → HasOneValuation N
+one_valuation N free cut choice =
     let v = map_of N (value N (chosen cut) free) in
-    let is = solution_values N cut (value N (chosen cut) free) whole choice (solves N (chosen cut) free) in
-    (v, is, λ w b. one_of N cut v w whole free is b)
+    let is = solution_values N cut (value N (chosen cut) free) choice (solves N (chosen cut) free) in
+    (v, is, λ w b. one_of N cut v w free is b)

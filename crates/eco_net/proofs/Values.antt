@@ -22,6 +22,7 @@ pub record Solves (N : Netlist) (bits : CutKey → Bool) (v : Name → Bool) : T
   pub supplied : (n : Name) (b : Bool) → get N.nets n ≡ Some (Some b) → v n ≡ b
   pub free : (n : Name) (key : CutKey) → IsFree N n → KeyOf N n key → v n ≡ bits key
   pub computed : (n : Name) (table : List Bool) (inputs : List (Option Name)) → Computed N n table inputs → v n ≡ look table (map (at v) inputs)
+  pub none : (n : Name) → get N.nets n ≡ None → v n ≡ false
 
 -- ---- a computed net has one table and one list of inputs
 
@@ -167,10 +168,18 @@ module _ (N : Netlist) (bits : CutKey → Bool) where
     by_table n table ins (free_net key f h) c = absurd (f.1 (table, ins, c))
     by_table n table ins (no_net e) c = absurd (not_None (sym c.unsupplied ∙ e))
 
+    by_none : (n : Name) (s : Shape N n) → get N.nets n ≡ None → by_shape bits value s ≡ false
+    unfolding by_shape
+    by_none n (supply_net d e) f = absurd (not_None (sym e ∙ f))
+    by_none n (computed_net t i c) f = absurd (not_None (sym c.unsupplied ∙ f))
+    by_none n (free_net key g h) f = absurd (not_None (sym g.0 ∙ f))
+    by_none n (no_net e) f = refl
+
     pub solves : Solves N bits value
     solves = record {
       supplied = λ n b e. fixed n ∙ by_supply n b (shape N n) e;
       free = λ n key f h. fixed n ∙ by_key n key (shape N n) f h;
       computed = λ n table ins c. fixed n ∙ by_table n table ins (shape N n) c;
+      none = λ n e. fixed n ∙ by_none n (shape N n) e;
     }
 

@@ -1,5 +1,6 @@
 -- Which pins drive a net, and which nets are computed or free.
 use Rattle.std.specs.Prelude.{◌≡◌, Bool, true, false, cond, List, Option, Some, None}
+use Rattle.std.specs.Option.{option_map}
 use Rattle.std.specs.FinMap.{get}
 use Rattle.eco_text.specs.declared.geometry.Dir.{Dir}
 use Rattle.eco_text.specs.declared.geometry.Dir.TheVariants.{Input, Output, Inout}
@@ -37,6 +38,19 @@ driven N (CompPin c p) = driven_at (get N.comps c) p
 pub record IsDriver (N : Netlist) (n : Name) (p : Pin) : Type 0 where
   pub drives : driven N p ≡ Some n
   pub only : (q : Pin) → driven N q ≡ Some n → q ≡ p
+
+abbrev pub joined_at : Option Component → Name → Option Name
+joined_at None p = None
+joined_at (Some x) p = get x.joined p
+
+-- the net that a pin is on
+abbrev pub net_of : Netlist → Pin → Option Name
+net_of N (TopPin t) = option_map (λ x. x.net) (get N.tops t)
+net_of N (CompPin c p) = joined_at (get N.comps c) p
+
+-- a pin of the net, but not its one driving pin
+abbrev pub IsSink : Netlist → Name → Pin → Type 0
+IsSink N n p = (net_of N p ≡ Some n) × (IsDriver N n p → ⊥)
 
 -- n is no supply, and its one driving pin is a gate's output, with this table and these nets at the gate's inputs
 pub record Computed (N : Netlist) (n : Name) (table : List Bool) (inputs : List (Option Name)) : Type 0 where

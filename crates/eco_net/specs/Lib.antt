@@ -4,4 +4,5 @@ pub mod CutKeys
 pub mod Observables
 pub mod Valuation
 pub mod Walks
+pub mod Depth
 pub mod Laws

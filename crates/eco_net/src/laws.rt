@@ -1,8 +1,13 @@
-ghost use Rattle.eco_net.specs.Laws.{OneCutKey, OneValuation, RanksShow, WalkShows};
+ghost use Rattle.eco_net.specs.Laws.{EachNet, OneCutKey, OneDepth, OneValuation, RanksShow, WalkShows};
 
 /// A law: a loop-free netlist has exactly one valuation for each choice of cut bits.
 pub fn one_valuation()
     ensures { OneValuation }
+{}
+
+/// A law: each net is a supply, computed or free.
+pub fn each_net()
+    ensures { EachNet }
 {}
 
 /// A law: a free net has exactly one cut key.
@@ -18,4 +23,9 @@ pub fn ranks_show()
 /// A law: a closed walk, as it is reported, shows that a netlist is not loop-free.
 pub fn closed_walk_shows()
     ensures { WalkShows }
+{}
+
+/// A law: a netlist has at most one depth.
+pub fn one_depth()
+    ensures { OneDepth }
 {}
