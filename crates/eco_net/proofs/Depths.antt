@@ -1,5 +1,5 @@
 -- A netlist has at most one depth
-use Rattle.std.proofs.Common.{◌≡◌, ℕ, suc, ◌<◌, ◌≤◌, refl, sym, subst, arith, ◌⊎◌, inl, inr}
+use Rattle.std.proofs.Common.{◌≡◌, ℕ, suc, ◌≤◌, arith, ◌⊎◌, inl, inr}
 use Rattle.eco_net.specs.Netlist.{Netlist}
 use Rattle.eco_net.specs.Depth.{IsDepth, IsGate, Behind}
 

@@ -1,18 +1,17 @@
 -- A small netlist by computing the definitions: a half adder with a table for each of its two outputs, whose one input is the
 -- chip's and whose other is a register's, so a box's; a supply as the low tie net, a gate without inputs behind the high one;
 -- and an inverter whose input is on no net and whose output meets an INOUT pin of the chip.
-use Rattle.std.proofs.Common.{◌≡◌, ◌≢◌, ℕ, zero, suc, ◌<◌, Bool, true, false, List, [], ◌∷◌, map, Option, Some, None, refl, sym, ap, ap₂, ◌∙◌, subst, inl, inr, ⊎_elim, ◌⊎◌, codes, true≢false, arith}
+use Rattle.std.proofs.Common.{◌≡◌, ◌≢◌, ℕ, zero, suc, ◌<◌, Bool, true, false, List, [], ◌∷◌, map, Some, None, refl, sym, ap, ap₂, ◌∙◌, subst, inl, inr, codes, true≢false, arith}
 use Rattle.std.specs.Prelude.{slice_index_or}
-use Rattle.std.specs.Option.{unwrap_or, option_map}
-use Rattle.std.specs.FinMap.{get, find}
-use Rattle.eco_text.specs.declared.geometry.Dir.{Dir}
+use Rattle.std.specs.Option.{unwrap_or}
+use Rattle.std.specs.FinMap.{get}
 use Rattle.eco_text.specs.declared.geometry.Dir.TheVariants.{Input, Output, Inout}
-use Rattle.eco_net.specs.Netlist.{Name, name_cmp, Has, Kind, Gate, Boxed, Netlist, Component, Top, Pin, TopPin, CompPin, Computes, Outside, IsNet, IsWhole, pins_of, role_of, inputs_of}
+use Rattle.eco_net.specs.Netlist.{Name, Has, Gate, Boxed, Netlist, Pin, TopPin, CompPin, Computes, IsWhole}
 use Rattle.eco_net.specs.Drivers.{driven, IsDriver, Computed, IsComputed, IsFree, IsSink, joined_at}
 use Rattle.eco_net.specs.Walks.{ReadsNet, IsLoopFree}
-use Rattle.eco_net.specs.Depth.{IsDepth, IsGate, Behind}
-use Rattle.eco_net.specs.CutKeys.{CutKey, PinKey, NetKey, KeyOf, IsCutKey, CutBits, is_source_pin, is_source_at, is_source_top, is_source}
-use Rattle.eco_net.specs.Observables.{IsObservable, ObservedTop, ObservedAt, ObservedRole, observed, value_at, value_by_role, value_top}
+use Rattle.eco_net.specs.Depth.{IsDepth, Behind}
+use Rattle.eco_net.specs.CutKeys.{PinKey, NetKey, KeyOf, IsCutKey, CutBits, is_source_at, is_source_top}
+use Rattle.eco_net.specs.Observables.{IsObservable, ObservedTop, ObservedAt, ObservedRole, observed, value_at}
 use Rattle.eco_net.specs.Valuation.{Valuation, IsValuation, HasOneValuation, look, read, row}
 use Rattle.eco_net.proofs.Lists.{Part, Lists, made, component, driver_by, driven_made, net_made, top_made, comp_made, joined_made, inputs_made, computed_by, free_top, free_box, free_several, EachReads, reads_by, whole_by}
 use Rattle.eco_net.proofs.Basics.{same_Some, not_None, same_head}
@@ -183,8 +182,10 @@ not_computed = (both, (none, (none, (one, tt))))
     both n (inl e) m = a_free.1 (subst (IsComputed N) (sym (same_Some e)) m)
     both n (inr (inl e)) m = q_free.1 (subst (IsComputed N) (sym (same_Some e)) m)
     both n (inr (inr h)) m = h
+
     none : (n : Name) → Has [] (Some n) → IsComputed N n → ⊥
     none n h m = h
+
     one : (n : Name) → Has (None ∷ []) (Some n) → IsComputed N n → ⊥
     one n (inl e) m = not_None (sym e)
     one n (inr h) m = h

@@ -64,4 +64,3 @@ visit N free (suc fuel) left n l c = grounded (λ a r.
 
 pub all_grounded : (N : Netlist) → IsLoopFree N → (n : Name) → Grounded N n
 all_grounded N free n = visit N free (length (keys N.nets)) (keys N.nets) n (le_refl _) (λ m i. inl (has_key N.nets m None i.2.unsupplied))
-

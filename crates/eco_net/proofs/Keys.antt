@@ -1,10 +1,10 @@
 -- What kind of net each is; a free net has exactly one cut key, and keys are ordered by their names
-use Rattle.std.proofs.Common.{◌≡◌, Bool, List, [], ◌∷◌, Option, Some, None, refl, sym, ap, ap₂, ◌∙◌, inl, inr, ◌⊎◌}
+use Rattle.std.proofs.Common.{◌≡◌, Bool, Some, sym, ap, ap₂, ◌∙◌, inl, inr, ◌⊎◌}
 use Rattle.std.specs.Cmp.{IsTotalOrder, on_total}
 use Rattle.std.specs.Cmp.Lexicographic.{nat_list_cmp_total, lists_total}
 use Rattle.std.specs.FinMap.{IsAntisymmetric, slice_cmp-IsAntisymmetric, get}
 use Rattle.std.proofs.lemmas.Map.Lookups.{exact_bytes}
-use Rattle.eco_net.specs.Netlist.{Name, Netlist, Pin, TopPin, CompPin, IsNet}
+use Rattle.eco_net.specs.Netlist.{Name, Netlist, TopPin, CompPin, IsNet}
 use Rattle.eco_net.specs.Drivers.{IsComputed, IsFree}
 use Rattle.eco_net.specs.CutKeys.{CutKey, PinKey, NetKey, KeyOf, key_cmp, key_names}
 use Rattle.eco_net.proofs.Basics.{same_Some, not_None}

@@ -1,16 +1,16 @@
 -- Netlists that are given by lists: what drives their nets, by computing
-use Rattle.std.proofs.Common.{◌≡◌, ◌≢◌, Bool, true, false, cond, ◌&&◌, List, [], ◌∷◌, ◌++◌, map, Option, Some, None, refl, sym, ap, ◌∙◌, inl, inr, ⊎_elim, ◌⊎◌, true≢false, is_some, subst}
+use Rattle.std.proofs.Common.{◌≡◌, ◌≢◌, Bool, true, false, cond, ◌&&◌, List, [], ◌∷◌, ◌++◌, map, Option, Some, None, refl, sym, ap, ◌∙◌, inl, inr, ⊎_elim, true≢false, is_some, subst}
 use Rattle.std.specs.Option.{option_map}
 use Rattle.std.specs.Ordering.{eq_by_cmp}
 use Rattle.std.specs.Cmp.{Equal-is}
 use Rattle.std.specs.Cmp.Lexicographic.{nat_list_cmp_total}
 use Rattle.std.specs.FinMap.{get, from_entries, find, get-from_entries}
 use Rattle.eco_text.specs.declared.geometry.Dir.{Dir}
-use Rattle.eco_net.specs.Netlist.{Name, name_cmp, Has, Kind, Netlist, Component, Top, Pin, TopPin, CompPin, Role, Computes, Outside, pins_of, role_of, input_names, inputs_of, IsNet, IsWhole}
+use Rattle.eco_net.specs.Netlist.{Name, name_cmp, Has, Kind, Netlist, Component, Top, Pin, TopPin, CompPin, Computes, Outside, pins_of, role_of, input_names, inputs_of, IsNet, IsWhole}
 use Rattle.eco_net.specs.Drivers.{is_driving, driven, driven_at, driven_top, IsDriver, Computed, IsFree}
 use Rattle.eco_net.specs.CutKeys.{PinKey, key_cmp}
-use Rattle.eco_net.proofs.Basics.{same_of_cmp, same_Some, not_None, cmp_itself, has_found, has_append_left, has_append_right, has_map, map_agree, find_first, find_rest, same_name}
-use Rattle.eco_net.proofs.Decide.{comp_pins, has_comp_pin, driving_role, gate_is, same_comp}
+use Rattle.eco_net.proofs.Basics.{same_Some, not_None, cmp_itself, has_found, has_append_left, has_append_right, has_map, map_agree, find_first, find_rest, same_name}
+use Rattle.eco_net.proofs.Decide.{comp_pins, has_comp_pin, driving_role, gate_is}
 use Rattle.eco_net.proofs.Keys.{key_cmp-IsAntisymmetric}
 
 abbrev pub Part : Type 0
@@ -127,8 +127,8 @@ only_has : (L : Lists) (n : Name) (p : Pin) (qs : List Pin) → only_by L n p qs
 only_has L n p [] e q h d = absurd h
 only_has L n p (x ∷ qs) e q (inl s) d =
     same_by q p (ap (λ x. is_pin x p) (sym s)
-        ∙ sym (ap (λ b. cond b (is_pin x p) true) (at_itself (drives_in L x) n (ap (drives_in L) s ∙ d)))
-        ∙ first_so _ _ e)
+    ∙ sym (ap (λ b. cond b (is_pin x p) true) (at_itself (drives_in L x) n (ap (drives_in L) s ∙ d)))
+    ∙ first_so _ _ e)
 only_has L n p (x ∷ qs) e q (inr h) d = only_has L n p qs (second_so (cond (is_at (drives_in L x) n) (is_pin x p) true) _ e) q h d
 
 pub driver_by : (L : Lists) (n : Name) (p : Pin) → drives_in L p ≡ Some n → only_by L n p (all_in L) ≡ true → IsDriver (made L) n p
@@ -158,10 +158,13 @@ not_computes : {t : List Bool} {d : Dir} → Some (Outside d) ≡ Some (Computes
 not_computes e = cc
 
 pub free_box : (N : Netlist) (n c p : Name) (x : Component) (d : Dir) → get N.nets n ≡ Some None → IsDriver N n (CompPin c p) → get N.comps c ≡ Some x → role_of x p ≡ Some (Outside d) → IsFree N n
-free_box N n c p x d u driver e r = (u, λ m.
-    let g = gate_is N n m.0 m.1 m.2 c p x driver e in
-    let h : role_of x p ≡ Some (Computes m.0) = ap (λ y. role_of y p) (sym g.0) ∙ ap (role_of m.2.gate) (sym g.1) ∙ m.2.at in
-    not_computes (sym r ∙ h))
+free_box N n c p x d u driver e r = (
+  u,
+  λ m.
+      let g = gate_is N n m.0 m.1 m.2 c p x driver e in
+      let h : role_of x p ≡ Some (Computes m.0) = ap (λ y. role_of y p) (sym g.0) ∙ ap (role_of m.2.gate) (sym g.1) ∙ m.2.at in
+      not_computes (sym r ∙ h),
+)
 
 pub free_several : (N : Netlist) (n : Name) (p q : Pin) → get N.nets n ≡ Some None → driven N p ≡ Some n → driven N q ≡ Some n → p ≢ q → IsFree N n
 free_several N n p q u d e a = (u, λ m. a (m.2.driver.only p d ∙ sym (m.2.driver.only q e)))

@@ -1,14 +1,12 @@
 -- Netlists with loops: what is reported of one, and why the law of one valuation speaks of those without
-use Rattle.std.proofs.Common.{◌≡◌, Bool, true, false, List, [], ◌∷◌, map, Option, Some, None, refl, sym, ap, ap₂, ◌∙◌, subst, inl, inr, codes, true≢false}
+use Rattle.std.proofs.Common.{◌≡◌, Bool, true, false, List, [], ◌∷◌, Some, None, refl, sym, ap, subst, inl, inr, codes, true≢false}
 use Rattle.std.specs.Option.{unwrap_or}
 use Rattle.std.specs.declared.cmp.Ordering.TheVariants.{Less}
-use Rattle.std.specs.FinMap.{get}
 use Rattle.eco_net.specs.Netlist.{Name, name_cmp, Has, Gate, Netlist, CompPin}
-use Rattle.eco_net.specs.Drivers.{IsDriver, Computed}
+use Rattle.eco_net.specs.Drivers.{Computed}
 use Rattle.eco_net.specs.CutKeys.{CutBits}
 use Rattle.eco_net.specs.Valuation.{Valuation, IsValuation, look, read}
 use Rattle.eco_net.specs.Walks.{ReadsNet, IsLoopFree, IsClosedWalk}
-use Rattle.eco_net.proofs.Basics.{same_Some}
 use Rattle.eco_net.proofs.Lists.{Part, Lists, made, driver_by, computed_by}
 use Rattle.eco_net.proofs.Walks.{reported}
 

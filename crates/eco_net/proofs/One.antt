@@ -1,19 +1,19 @@
 -- A loop-free netlist has exactly one valuation
-use Rattle.std.proofs.Common.{◌≡◌, ℕ, Bool, true, false, List, [], ◌∷◌, map, Option, Some, None, refl, sym, ap, ◌∙◌, subst, inl, inr, ⊎_elim, ◌⊎◌, cond, is_some, true≢false}
+use Rattle.std.proofs.Common.{◌≡◌, Bool, true, false, List, [], ◌∷◌, map, Option, Some, None, refl, sym, ap, ◌∙◌, cond, is_some, true≢false}
 use Rattle.std.specs.Option.{unwrap_or}
 use Rattle.std.specs.Ordering.{eq_by_cmp}
 use Rattle.std.specs.Cmp.Lexicographic.{nat_list_cmp_total}
-use Rattle.std.specs.FinMap.{FinMap, get, entries, from_entries, find, contains_key, same_map, get-entries, get-from_entries}
+use Rattle.std.specs.FinMap.{get, entries, from_entries, find, contains_key, same_map, get-entries, get-from_entries}
 use Rattle.std.proofs.lemmas.Map.Lookups.{exact_bytes}
-use Rattle.eco_net.specs.Netlist.{Name, name_cmp, Has, Netlist, IsWhole, IsNet, input_names}
+use Rattle.eco_net.specs.Netlist.{Name, name_cmp, Has, Netlist}
 use Rattle.eco_net.specs.Drivers.{Computed, IsFree}
 use Rattle.eco_net.specs.CutKeys.{CutKey, KeyOf, CutBits, IsChoice}
 use Rattle.eco_net.specs.Valuation.{Valuation, IsValuation, HasOneValuation, look, read}
 use Rattle.eco_net.specs.Walks.{IsLoopFree}
-use Rattle.eco_net.proofs.Basics.{same_Some, not_None, same_of_cmp, has_of_map, map_agree}
+use Rattle.eco_net.proofs.Basics.{same_of_cmp, map_agree}
 use Rattle.eco_net.proofs.Decide.{Shape, supply_net, computed_net, free_net, no_net, shape}
 use Rattle.eco_net.proofs.Grounded.{Grounded, grounded, all_grounded}
-use Rattle.eco_net.proofs.Values.{Solves, at, reads_agree, value, solves, one_key}
+use Rattle.eco_net.proofs.Values.{Solves, at, reads_agree, value, solves}
 
 -- ---- no other
 

@@ -1,11 +1,11 @@
 -- A value for each net of a loop-free netlist, by fuel
-use Rattle.std.proofs.Common.{◌≡◌, ℕ, zero, suc, ◌<◌, ◌≤◌, max, Bool, false, List, [], ◌∷◌, map, Option, Some, None, refl, sym, ap, ap₂, ◌∙◌, subst, inl, inr, ⊎_elim, arith, ◌⊎◌, le_trans, le_refl}
+use Rattle.std.proofs.Common.{◌≡◌, ℕ, zero, suc, ◌≤◌, max, Bool, false, List, [], ◌∷◌, map, Option, Some, None, refl, sym, ap, ap₂, ◌∙◌, subst, inl, inr, ⊎_elim, arith, le_trans, le_refl}
 use Rattle.std.proofs.Math.Nat.{le-max_left, le-max_right}
 use Rattle.std.specs.FinMap.{get}
 use Rattle.eco_net.specs.Netlist.{Name, Has, Netlist, role_of}
 use Rattle.eco_net.specs.Drivers.{Computed, IsComputed, IsFree}
 use Rattle.eco_net.specs.CutKeys.{KeyOf, CutKey, PinKey, NetKey}
-use Rattle.eco_net.specs.Walks.{ReadsNet, IsLoopFree}
+use Rattle.eco_net.specs.Walks.{IsLoopFree}
 use Rattle.eco_net.specs.Valuation.{look}
 use Rattle.eco_net.proofs.Basics.{same_Some, not_None, map_agree}
 use Rattle.eco_net.proofs.Decide.{Shape, supply_net, computed_net, free_net, no_net, shape, gate_is, same_table}
@@ -182,4 +182,3 @@ module _ (N : Netlist) (bits : CutKey → Bool) where
       computed = λ n table ins c. fixed n ∙ by_table n table ins (shape N n) c;
       none = λ n e. fixed n ∙ by_none n (shape N n) e;
     }
-

@@ -1,5 +1,5 @@
 -- What the code's levels and its reported walks say of closed walks
-use Rattle.std.proofs.Common.{◌≡◌, ℕ, zero, suc, ◌+◌, ◌<◌, ◌≤◌, List, [], ◌∷◌, length, refl, sym, ap, subst, arith}
+use Rattle.std.proofs.Common.{◌≡◌, ℕ, zero, suc, ◌+◌, ◌<◌, ◌≤◌, List, [], ◌∷◌, length, refl, ap, arith}
 use Rattle.eco_net.specs.Netlist.{Name, Netlist}
 use Rattle.eco_net.specs.Walks.{ReadsNet, Walk, IsLoopFree, Onward, IsClosedWalk}
 use Rattle.eco_net.proofs.Grounded.{further}

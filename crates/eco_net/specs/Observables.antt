@@ -1,8 +1,7 @@
 -- Where values are seen from outside: the chip's outputs, what boxes (registers among them) read, and gate outputs on
 -- free nets.
-use Rattle.std.specs.Prelude.{◌≡◌, ◌≢◌, Bool, false, List, map, Option, Some, None}
+use Rattle.std.specs.Prelude.{◌≢◌, Bool, false, List, map, Option, Some, None}
 use Rattle.std.specs.FinMap.{get}
-use Rattle.eco_text.specs.declared.geometry.Dir.{Dir}
 use Rattle.eco_text.specs.declared.geometry.Dir.TheVariants.{Input, Output, Inout}
 use Rattle.eco_net.specs.Netlist.{Name, Netlist, Component, Top, Pin, TopPin, CompPin, Role, Reads, Computes, Outside, role_of, inputs_of}
 use Rattle.eco_net.specs.Drivers.{IsFree}

@@ -5,4 +5,6 @@
 
 mod laws;
 
-pub use crate::laws::{closed_walk_shows, each_net, one_cut_key, one_depth, one_valuation, ranks_show};
+pub use crate::laws::{
+    closed_walk_shows, each_net, one_cut_key, one_depth, one_valuation, ranks_show,
+};
