@@ -4,6 +4,7 @@ pub mod Grounded
 pub mod Values
 pub mod One
 pub mod Keys
+pub mod Choices
 pub mod Walks
 pub mod Depths
 pub mod Lists

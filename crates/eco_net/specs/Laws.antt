@@ -3,7 +3,7 @@ use Rattle.std.specs.Prelude.{◌≡◌, ℕ, ◌<◌, Bool, List, ◌⊎◌, So
 use Rattle.std.specs.FinMap.{get}
 use Rattle.eco_net.specs.Netlist.{Name, Netlist, IsNet}
 use Rattle.eco_net.specs.Drivers.{IsComputed, IsFree}
-use Rattle.eco_net.specs.CutKeys.{CutKey, KeyOf}
+use Rattle.eco_net.specs.CutKeys.{CutKey, CutBits, KeyOf, IsCutKey, IsChoice}
 use Rattle.eco_net.specs.Valuation.{HasOneValuation}
 use Rattle.eco_net.specs.Walks.{ReadsNet, IsLoopFree, IsClosedWalk}
 use Rattle.eco_net.specs.Depth.{IsDepth}
@@ -19,6 +19,10 @@ EachNet = (N : Netlist) (n : Name) → IsNet N n → ((b : Bool) × (get N.nets 
 -- a free net has exactly one cut key
 abbrev pub OneCutKey : Type 0
 OneCutKey = (N : Netlist) (n : Name) → IsFree N n → (key : CutKey) × KeyOf N n key × ((other : CutKey) → KeyOf N n other → other ≡ key)
+
+-- the cut keys are finite, and each of them may have either bit
+abbrev pub EachChoice : Type 0
+EachChoice = (N : Netlist) (bits : CutKey → Bool) → (cut : CutBits) × IsChoice N cut × ((key : CutKey) → IsCutKey N key → get cut key ≡ Some (bits key))
 
 -- ranks that rise from each computed net to those that are read from it show that there is no loop
 abbrev pub RanksShow : Type 0

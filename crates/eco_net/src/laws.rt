@@ -1,4 +1,4 @@
-ghost use Rattle.eco_net.specs.Laws.{EachNet, OneCutKey, OneDepth, OneValuation, RanksShow, WalkShows};
+ghost use Rattle.eco_net.specs.Laws.{EachChoice, EachNet, OneCutKey, OneDepth, OneValuation, RanksShow, WalkShows};
 
 /// A law: a loop-free netlist has exactly one valuation for each choice of cut bits.
 pub fn one_valuation()
@@ -13,6 +13,11 @@ pub fn each_net()
 /// A law: a free net has exactly one cut key.
 pub fn one_cut_key()
     ensures { OneCutKey }
+{}
+
+/// A law: the cut keys are finite, and each of them may have either bit.
+pub fn each_choice()
+    ensures { EachChoice }
 {}
 
 /// A law: ranks that rise from each computed net to those whose drivers read it show that a netlist is loop-free.

@@ -6,5 +6,5 @@
 mod laws;
 
 pub use crate::laws::{
-    closed_walk_shows, each_net, one_cut_key, one_depth, one_valuation, ranks_show,
+    closed_walk_shows, each_choice, each_net, one_cut_key, one_depth, one_valuation, ranks_show,
 };
