@@ -1,11 +1,29 @@
 -- Options, names, maps by names, and lists
-use Rattle.std.proofs.Common.{◌≡◌, ◌≢◌, Bool, true, false, cond, List, [], ◌∷◌, ◌++◌, map, Option, Some, None, refl, sym, ap, ◌∙◌, inl, inr, ⊎_elim, ◌⊎◌, true≢false, is_eq}
+use Rattle.std.specs.List.{Contains}
+use Rattle.std.proofs.Common.{zero, suc, arith, ◌≡◌, ◌≢◌, Bool, true, false, cond, List, [], ◌∷◌, ◌++◌, map, Option, Some, None, refl, sym, ap, ◌∙◌, inl, inr, ⊎_elim, ◌⊎◌, true≢false, is_eq}
 use Rattle.std.specs.Ordering.{eq_by_cmp}
 use Rattle.std.specs.Cmp.{Equal-is, tied_itself}
 use Rattle.std.specs.Cmp.Lexicographic.{nat_list_cmp_total}
 use Rattle.std.specs.FinMap.{FinMap, get, insert, entries, find, get-insert, get-entries, keys}
 use Rattle.std.proofs.lemmas.Map.Lookups.{exact_bytes}
-use Rattle.eco_net.specs.Netlist.{Name, name_cmp, Has}
+use Rattle.eco_net.specs.Netlist.{Name, name_cmp}
+
+-- ---- lists
+
+-- x stands in the list
+abbrev pub Has : {A : Type 0} → List A → A → Type 0
+Has [] x = ⊥
+Has (y ∷ ys) x = (y ≡ x) ⊎ Has ys x
+
+pub contains_from_has : {A : Type 0} (xs : List A) (x : A) → Has xs x → Contains xs x
+contains_from_has [] x h = absurd h
+contains_from_has (y ∷ ys) x (inl e) = (0, omega arith, e)
+contains_from_has (y ∷ ys) x (inr h) = let r = contains_from_has ys x h in (suc r.0, omega (arith, r.1), r.2)
+
+pub has_from_contains : {A : Type 0} (xs : List A) (x : A) → Contains xs x → Has xs x
+has_from_contains [] x c = absurd (omega (arith, c.1))
+has_from_contains (y ∷ ys) x (zero, l, e) = inl e
+has_from_contains (y ∷ ys) x (suc k, l, e) = inr (has_from_contains ys x (k, omega (arith, l), e))
 
 -- ---- options
 

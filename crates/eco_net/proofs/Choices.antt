@@ -1,12 +1,12 @@
 -- The cut keys of a netlist are finite, and each of them may have either bit
-use Rattle.std.proofs.Common.{◌≡◌, Bool, true, false, cond, List, [], ◌∷◌, map, Option, Some, None, refl, sym, ap, ◌∙◌, subst, inl, inr, ⊎_elim, ◌⊎◌, true≢false, is_some, is_eq}
+use Rattle.std.proofs.Common.{◌≡◌, Bool, true, false, cond, List, [], ◌∷◌, map, Some, refl, sym, ap, ◌∙◌, subst, inl, inr, ⊎_elim, ◌⊎◌, true≢false, is_some, is_eq}
 use Rattle.std.specs.Ordering.{eq_by_cmp}
 use Rattle.std.specs.Cmp.{Equal-is, tied_itself}
-use Rattle.std.specs.FinMap.{get, from_entries, find, keys, contains_key, get-from_entries}
-use Rattle.eco_net.specs.Netlist.{Name, Netlist, Has}
+use Rattle.std.specs.FinMap.{get, from_entries, find, keys, get-from_entries}
+use Rattle.eco_net.specs.Netlist.{Name, Netlist}
 use Rattle.eco_net.specs.Drivers.{IsFree}
 use Rattle.eco_net.specs.CutKeys.{CutKey, CutBits, KeyOf, IsCutKey, IsChoice, key_cmp}
-use Rattle.eco_net.proofs.Basics.{same_Some, not_None, has_key}
+use Rattle.eco_net.proofs.Basics.{Has, same_Some, not_None, has_key}
 use Rattle.eco_net.proofs.Decide.{Shape, supply_net, computed_net, free_net, no_net, shape}
 use Rattle.eco_net.proofs.Values.{one_key}
 use Rattle.eco_net.proofs.Keys.{key_cmp_total, key_cmp-IsAntisymmetric}
@@ -83,7 +83,9 @@ each_choice N bits = (from_entries es, λ key. (λ c. ap is_some (agrees key c),
   where
     ks : List CutKey
     ks = keys_at N (keys N.nets)
+
     es : List (CutKey × Bool)
     es = with_bits bits ks
+
     agrees : (key : CutKey) → IsCutKey N key → get (from_entries {R = key_cmp} es) key ≡ Some (bits key)
     agrees key c = get-from_entries key_cmp_total es key ∙ bit_is bits ks key (has_all N (keys N.nets) c.0 key (has_key N.nets c.0 _ c.1.0) c.1 c.2)

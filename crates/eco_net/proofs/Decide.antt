@@ -1,10 +1,10 @@
 -- Which kind of net a name is can be decided: its driving pins are among a list
 use Rattle.std.proofs.Common.{◌≡◌, ◌≢◌, Bool, true, false, cond, List, [], ◌∷◌, ◌++◌, map, Option, Some, None, refl, sym, ap, ap₂, ◌∙◌, subst, inl, inr, ⊎_elim, ◌⊎◌, true≢false}
 use Rattle.std.specs.FinMap.{get, entries, keys, find, get-entries}
-use Rattle.eco_net.specs.Netlist.{Name, name_cmp, Has, Netlist, Component, Top, Pin, TopPin, CompPin, Role, Reads, Computes, Outside, pins_of, role_of, inputs_of}
+use Rattle.eco_net.specs.Netlist.{Name, name_cmp, Netlist, Component, Top, Pin, TopPin, CompPin, Role, Reads, Computes, Outside, pins_of, role_of, inputs_of}
 use Rattle.eco_net.specs.Drivers.{is_driving, driven, driven_at, driven_top, IsDriver, Computed, IsFree}
 use Rattle.eco_net.specs.CutKeys.{KeyOf, CutKey, PinKey, NetKey, is_source_pin}
-use Rattle.eco_net.proofs.Basics.{same_name, same_Some, not_None, has_key, has_found, has_append_left, has_append_right, has_map, find_rest, find_first}
+use Rattle.eco_net.proofs.Basics.{Has, same_name, same_Some, not_None, has_key, has_found, has_append_left, has_append_right, has_map, find_rest, find_first}
 
 abbrev pub Decided : Type 0 → Type 0
 Decided P = P ⊎ (P → ⊥)

@@ -2,19 +2,20 @@
 -- chip's and whose other is a register's, so a box's; a supply as the low tie net, a gate without inputs behind the high one;
 -- and an inverter whose input is on no net and whose output meets an INOUT pin of the chip.
 use Rattle.std.proofs.Common.{◌≡◌, ◌≢◌, ℕ, zero, suc, ◌<◌, Bool, true, false, List, [], ◌∷◌, map, Some, None, refl, sym, ap, ap₂, ◌∙◌, subst, inl, inr, codes, true≢false, arith}
-use Rattle.std.specs.Prelude.{slice_index_or}
+use Rattle.std.specs.Prelude.{slice_index_or, length}
+use Rattle.std.specs.List.{Contains, IsDistinct}
 use Rattle.std.specs.Option.{unwrap_or}
 use Rattle.std.specs.FinMap.{get}
 use Rattle.eco_text.specs.declared.geometry.Dir.TheVariants.{Input, Output, Inout}
-use Rattle.eco_net.specs.Netlist.{Name, Has, Gate, Boxed, Netlist, Pin, TopPin, CompPin, Computes, IsWhole}
+use Rattle.eco_net.specs.Netlist.{Name, Gate, Boxed, Netlist, Pin, TopPin, CompPin, Computes, IsWhole}
 use Rattle.eco_net.specs.Drivers.{driven, IsDriver, Computed, IsComputed, IsFree, IsSink, joined_at}
 use Rattle.eco_net.specs.Walks.{ReadsNet, IsLoopFree}
 use Rattle.eco_net.specs.Depth.{IsDepth, Behind}
 use Rattle.eco_net.specs.CutKeys.{PinKey, NetKey, KeyOf, IsCutKey, CutBits, is_source_at, is_source_top}
 use Rattle.eco_net.specs.Observables.{IsObservable, ObservedTop, ObservedAt, ObservedRole, observed, value_at}
 use Rattle.eco_net.specs.Valuation.{Valuation, IsValuation, HasOneValuation, look, read, row}
-use Rattle.eco_net.proofs.Lists.{Part, Lists, made, component, driver_by, driven_made, net_made, top_made, comp_made, joined_made, inputs_made, computed_by, free_top, free_box, free_several, EachReads, reads_by, whole_by}
-use Rattle.eco_net.proofs.Basics.{same_Some, not_None, same_head}
+use Rattle.eco_net.proofs.Lists.{Part, Lists, made, component, driver_by, driven_made, net_made, top_made, comp_made, joined_made, inputs_made, computed_by, free_top, free_box, free_several, EachReads, reads_by, whole_by, EachFits}
+use Rattle.eco_net.proofs.Basics.{Has, has_from_contains, same_Some, not_None, same_head}
 use Rattle.eco_net.proofs.Decide.{same_comp}
 use Rattle.eco_net.proofs.One.{one_valuation}
 
@@ -172,8 +173,34 @@ not_at_output h = subst (λ o. ObservedAt N o (codes "Q")) (comp_made lists (cod
 
 -- ---- it is whole, without loops and one gate deep
 
+four_rows : (o : Name × List Bool) → Has ((codes "C", false ∷ false ∷ false ∷ true ∷ []) ∷ (codes "S", false ∷ true ∷ true ∷ false ∷ []) ∷ []) o → length o.1 ≡ 4
+four_rows o (inl e) = subst (λ z. length z.1 ≡ 4) e refl
+four_rows o (inr (inl e)) = subst (λ z. length z.1 ≡ 4) e refl
+four_rows o (inr (inr h)) = absurd h
+
+one_row : (o : Name × List Bool) → Has ((codes "Y", true ∷ []) ∷ []) o → length o.1 ≡ 1
+one_row o (inl e) = subst (λ z. length z.1 ≡ 1) e refl
+one_row o (inr h) = absurd h
+
+two_rows : (o : Name × List Bool) → Has ((codes "Y", true ∷ false ∷ []) ∷ []) o → length o.1 ≡ 2
+two_rows o (inl e) = subst (λ z. length z.1 ≡ 2) e refl
+two_rows o (inr h) = absurd h
+
+each_fits : EachFits lists.comps
+unfolding IsDistinct
+each_fits = (
+  (((refl, (refl, (refl, tt))), ((refl, (refl, tt)), ((refl, tt), (tt, tt)))), λ o c. four_rows o (has_from_contains ((codes "C", false ∷ false ∷ false ∷ true ∷ []) ∷ (codes "S", false ∷ true ∷ true ∷ false ∷ []) ∷ []) o c), refl),
+  (
+    (((refl, tt), (tt, tt)), tt, refl),
+    (
+      ((tt, tt), λ o c. one_row o (has_from_contains ((codes "Y", true ∷ []) ∷ []) o c), refl),
+      ((((refl, tt), (tt, tt)), λ o c. two_rows o (has_from_contains ((codes "Y", true ∷ false ∷ []) ∷ []) o c), refl), tt),
+    ),
+  ),
+)
+
 whole : IsWhole N
-whole = whole_by lists refl refl
+whole = whole_by lists each_fits refl refl
 
 not_computed : EachReads (λ n. IsComputed N n → ⊥) lists.comps
 not_computed = (both, (none, (none, (one, tt))))
@@ -191,7 +218,7 @@ not_computed = (both, (none, (none, (one, tt))))
     one n (inr h) m = h
 
 no_reads : (a b : Name) → ReadsNet N a b → ⊥
-no_reads a b r = reads_by lists (λ n. IsComputed N n → ⊥) not_computed r.to.comp r.to.gate r.to.is a (subst (λ ins. Has ins (Some a)) (sym r.to.reads) r.reads) r.from
+no_reads a b r = reads_by lists (λ n. IsComputed N n → ⊥) not_computed r.to.comp r.to.gate r.to.is a (subst (λ ins. Contains ins (Some a)) (sym r.to.reads) r.reads) r.from
 
 loop_free : IsLoopFree N
 loop_free a k w = no_reads w.0 a w.2

@@ -1,10 +1,10 @@
 -- In a loop-free netlist what a net's value rests on ends: walks backwards visit each computed net at most once
 use Rattle.std.proofs.Common.{◌≡◌, ℕ, zero, suc, ◌<◌, ◌≤◌, List, [], ◌∷◌, length, None, refl, sym, ◌∙◌, subst, inl, inr, ⊎_elim, arith, ◌⊎◌, le_refl}
 use Rattle.std.specs.FinMap.{keys}
-use Rattle.eco_net.specs.Netlist.{Name, Has, Netlist}
+use Rattle.eco_net.specs.Netlist.{Name, Netlist}
 use Rattle.eco_net.specs.Drivers.{IsComputed}
 use Rattle.eco_net.specs.Walks.{ReadsNet, Walk, IsLoopFree}
-use Rattle.eco_net.proofs.Basics.{same_name, has_key}
+use Rattle.eco_net.proofs.Basics.{Has, same_name, has_key}
 
 pub data Grounded (N : Netlist) : Name → Type 0 where
   grounded : {n : Name} → ((a : Name) → ReadsNet N a n → Grounded N a) → Grounded N n

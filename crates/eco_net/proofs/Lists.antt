@@ -1,16 +1,17 @@
 -- Netlists that are given by lists: what drives their nets, by computing
 use Rattle.std.proofs.Common.{◌≡◌, ◌≢◌, Bool, true, false, cond, ◌&&◌, List, [], ◌∷◌, ◌++◌, map, Option, Some, None, refl, sym, ap, ◌∙◌, inl, inr, ⊎_elim, true≢false, is_some, subst}
+use Rattle.std.specs.List.{IsDistinct, Contains}
 use Rattle.std.specs.Option.{option_map}
 use Rattle.std.specs.Ordering.{eq_by_cmp}
 use Rattle.std.specs.Cmp.{Equal-is}
 use Rattle.std.specs.Cmp.Lexicographic.{nat_list_cmp_total}
 use Rattle.std.specs.FinMap.{get, from_entries, find, get-from_entries}
 use Rattle.eco_text.specs.declared.geometry.Dir.{Dir}
-use Rattle.eco_net.specs.Netlist.{Name, name_cmp, Has, Kind, Netlist, Component, Top, Pin, TopPin, CompPin, Computes, Outside, pins_of, role_of, input_names, inputs_of, IsNet, IsWhole}
+use Rattle.eco_net.specs.Netlist.{Name, name_cmp, Kind, Netlist, Component, Top, Pin, TopPin, CompPin, Computes, Outside, pins_of, role_of, input_names, inputs_of, IsNet, IsWhole, IsPin, HasRows, Role}
 use Rattle.eco_net.specs.Drivers.{is_driving, driven, driven_at, driven_top, IsDriver, Computed, IsFree}
 use Rattle.eco_net.specs.CutKeys.{PinKey, key_cmp}
-use Rattle.eco_net.proofs.Basics.{same_Some, not_None, cmp_itself, has_found, has_append_left, has_append_right, has_map, map_agree, find_first, find_rest, same_name}
-use Rattle.eco_net.proofs.Decide.{comp_pins, has_comp_pin, driving_role, gate_is}
+use Rattle.eco_net.proofs.Basics.{Has, has_from_contains, same_Some, not_None, cmp_itself, has_found, has_append_left, has_append_right, has_map, map_agree, find_first, find_rest, same_name}
+use Rattle.eco_net.proofs.Decide.{comp_pins, names_of, has_comp_pin, driving_role, gate_is}
 use Rattle.eco_net.proofs.Keys.{key_cmp-IsAntisymmetric}
 
 abbrev pub Part : Type 0
@@ -191,8 +192,9 @@ part_reads P (d ∷ es) c x each e a h =
     (λ n. part_reads P es c x each.1 (find_rest d es c n e) a h)
     (same_name c d.0)
 
-pub reads_by : (L : Lists) (P : Name → Type 0) → EachReads P L.comps → (c : Name) (gate : Component) → get (made L).comps c ≡ Some gate → (a : Name) → Has (inputs_of gate) (Some a) → P a
-reads_by L P each c gate e a h =
+pub reads_by : (L : Lists) (P : Name → Type 0) → EachReads P L.comps → (c : Name) (gate : Component) → get (made L).comps c ≡ Some gate → (a : Name) → Contains (inputs_of gate) (Some a) → P a
+reads_by L P each c gate e a i =
+    let h = has_from_contains (inputs_of gate) (Some a) i in
     let x = part_of L c gate e in
     part_reads P L.comps c x.0 each x.1 a (subst (λ ins. Has ins (Some a)) (ap inputs_of (sym x.2) ∙ inputs_made x.0) h)
 
@@ -226,11 +228,45 @@ part_joined (d ∷ es) c x p n e f =
     (λ a. has_append_right (map (λ j. j.1) d.1.1) _ _ (part_joined es c x p n (find_rest d es c a e) f))
     (same_name c d.0)
 
-pub whole_by : (L : Lists) → are_nets L (all_joined L.comps) ≡ true → are_nets L (map (λ e. e.1.net) L.tops) ≡ true → IsWhole (made L)
-whole_by L e f = record {
+-- each component's pins have distinct names, its tables have their rows, and only its pins are on nets
+abbrev pub are_pins : List (Name × Role) → List (Name × Name) → Bool
+are_pins pins [] = true
+are_pins pins (j ∷ js) = is_some (find name_cmp j.0 pins) && are_pins pins js
+
+abbrev pub EachFits : List (Name × Part) → Type 0
+EachFits [] = Unit {0}
+EachFits (e ∷ es) = (IsDistinct (eq_by_cmp name_cmp) (names_of (pins_of e.1.0)) × HasRows e.1.0 × (are_pins (pins_of e.1.0) e.1.1 ≡ true)) × EachFits es
+
+part_fits : (es : List (Name × Part)) (c : Name) (x : Part) → EachFits es → find name_cmp c es ≡ Some x → IsDistinct (eq_by_cmp name_cmp) (names_of (pins_of x.0)) × HasRows x.0 × (are_pins (pins_of x.0) x.1 ≡ true)
+part_fits [] c x fits e = absurd (not_None (sym e))
+part_fits (d ∷ es) c x fits e =
+    ⊎_elim
+    (λ s. subst (λ y. IsDistinct (eq_by_cmp name_cmp) (names_of (pins_of y.0)) × HasRows y.0 × (are_pins (pins_of y.0) y.1 ≡ true)) (same_Some (find_first d es c s e)) fits.0)
+    (λ n. part_fits es c x fits.1 (find_rest d es c n e))
+    (same_name c d.0)
+
+joined_pin : (pins : List (Name × Role)) (js : List (Name × Name)) (p n : Name) → are_pins pins js ≡ true → find name_cmp p js ≡ Some n → (r : Role) × (find name_cmp p pins ≡ Some r)
+joined_pin pins [] p n e f = absurd (not_None (sym f))
+joined_pin pins (j ∷ js) p n e f =
+    ⊎_elim
+    (λ s. subst (λ q. (r : Role) × (find name_cmp q pins ≡ Some r)) (sym s) (go (find name_cmp j.0 pins) refl))
+    (λ a. joined_pin pins js p n (second_so (is_some (find name_cmp j.0 pins)) _ e) (find_rest j js p a f))
+    (same_name p j.0)
+  where
+    go : (o : Option Role) → find name_cmp j.0 pins ≡ o → (r : Role) × (find name_cmp j.0 pins ≡ Some r)
+    go None g = absurd (true≢false (sym (first_so _ _ e) ∙ ap is_some g))
+    go (Some r) g = (r, g)
+
+pin_of : (es : List (Name × Part)) (c : Name) (y : Part) (p n : Name) → EachFits es → find name_cmp c es ≡ Some y → find name_cmp p y.1 ≡ Some n → (x : Component) → component y ≡ x → IsPin x p
+pin_of es c y p n fits e f x s = subst (λ z. IsPin z p) s (joined_pin (pins_of y.0) y.1 p n (part_fits es c y fits e).2 f)
+
+pub whole_by : (L : Lists) → EachFits L.comps → are_nets L (all_joined L.comps) ≡ true → are_nets L (map (λ e. e.1.net) L.tops) ≡ true → IsWhole (made L)
+whole_by L fits e f = record {
+  names = λ c x g. let y = part_of L c x g in subst (λ z. IsDistinct (eq_by_cmp name_cmp) (names_of (pins_of z.kind))) y.2 (part_fits L.comps c y.0 fits y.1).0;
+  rows = λ c x g. let y = part_of L c x g in subst (λ z. HasRows z.kind) y.2 (part_fits L.comps c y.0 fits y.1).1;
   pins = λ c x p n g h.
       let y = part_of L c x g in
-      net_by L (all_joined L.comps) n e (part_joined L.comps c y.0 p n y.1 (sym (joined_made y.0 p) ∙ ap (λ z. get z.joined p) y.2 ∙ h));
+      (pin_of L.comps c y.0 p n fits y.1 (sym (joined_made y.0 p) ∙ ap (λ z. get z.joined p) y.2 ∙ h) x y.2, net_by L (all_joined L.comps) n e (part_joined L.comps c y.0 p n y.1 (sym (joined_made y.0 p) ∙ ap (λ z. get z.joined p) y.2 ∙ h)));
   tops = λ t x g. net_by L (map (λ e. e.1.net) L.tops) x.net f (has_top_net L.tops t x (sym (top_made L t) ∙ g));
 }
   where

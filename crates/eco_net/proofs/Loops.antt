@@ -1,8 +1,10 @@
 -- Netlists with loops: what is reported of one, and why the law of one valuation speaks of those without
 use Rattle.std.proofs.Common.{◌≡◌, Bool, true, false, List, [], ◌∷◌, Some, None, refl, sym, ap, subst, inl, inr, codes, true≢false}
+use Rattle.std.specs.List.{IsDistinct}
 use Rattle.std.specs.Option.{unwrap_or}
 use Rattle.std.specs.declared.cmp.Ordering.TheVariants.{Less}
-use Rattle.eco_net.specs.Netlist.{Name, name_cmp, Has, Gate, Netlist, CompPin}
+use Rattle.eco_net.proofs.Basics.{Has, contains_from_has, has_from_contains}
+use Rattle.eco_net.specs.Netlist.{Name, name_cmp, Gate, Netlist, CompPin}
 use Rattle.eco_net.specs.Drivers.{Computed}
 use Rattle.eco_net.specs.CutKeys.{CutBits}
 use Rattle.eco_net.specs.Valuation.{Valuation, IsValuation, look, read}
@@ -37,18 +39,19 @@ x_computed : Computed ring (codes "x") not_table (Some (codes "y") ∷ [])
 x_computed = computed_by ring_lists (codes "x") (codes "i2") (codes "Y") (inverter (codes "y") (codes "x")) not_table refl (driver_by ring_lists (codes "x") (CompPin (codes "i2") (codes "Y")) refl refl) refl refl
 
 x_to_y : ReadsNet ring (codes "x") (codes "y")
-x_to_y = record { from = (_, _, x_computed); table = _; inputs = _; to = y_computed; reads = inl refl }
+x_to_y = record { from = (_, _, x_computed); table = _; inputs = _; to = y_computed; reads = contains_from_has (Some (codes "x") ∷ []) _ (inl refl) }
 
 y_to_x : ReadsNet ring (codes "y") (codes "x")
-y_to_x = record { from = (_, _, y_computed); table = _; inputs = _; to = x_computed; reads = inl refl }
+y_to_x = record { from = (_, _, y_computed); table = _; inputs = _; to = x_computed; reads = contains_from_has (Some (codes "y") ∷ []) _ (inl refl) }
 
 -- the walk is reported from its least net
+least : (m : Name) → Has (codes "y" ∷ []) m → name_cmp (codes "x") m ≡ Less
+least m (inl e) = subst (λ n. name_cmp (codes "x") n ≡ Less) e refl
+least m (inr h) = absurd h
+
 closed : IsClosedWalk ring (codes "x" ∷ codes "y" ∷ [])
-closed = ((x_to_y, y_to_x), least, (λ h. h, tt))
-  where
-    least : (m : Name) → Has (codes "y" ∷ []) m → name_cmp (codes "x") m ≡ Less
-    least m (inl e) = subst (λ n. name_cmp (codes "x") n ≡ Less) e refl
-    least m (inr h) = absurd h
+unfolding IsDistinct
+closed = ((x_to_y, y_to_x), λ m c. least m (has_from_contains (codes "y" ∷ []) m c), (tt, tt))
 
 not_loop_free : IsLoopFree ring → ⊥
 not_loop_free = reported ring (codes "x" ∷ codes "y" ∷ []) closed

@@ -5,12 +5,12 @@ use Rattle.std.specs.Ordering.{eq_by_cmp}
 use Rattle.std.specs.Cmp.Lexicographic.{nat_list_cmp_total}
 use Rattle.std.specs.FinMap.{get, entries, from_entries, find, contains_key, same_map, get-entries, get-from_entries}
 use Rattle.std.proofs.lemmas.Map.Lookups.{exact_bytes}
-use Rattle.eco_net.specs.Netlist.{Name, name_cmp, Has, Netlist}
+use Rattle.eco_net.specs.Netlist.{Name, name_cmp, Netlist}
 use Rattle.eco_net.specs.Drivers.{Computed, IsFree}
 use Rattle.eco_net.specs.CutKeys.{CutKey, KeyOf, CutBits, IsChoice}
 use Rattle.eco_net.specs.Valuation.{Valuation, IsValuation, HasOneValuation, look, read}
 use Rattle.eco_net.specs.Walks.{IsLoopFree}
-use Rattle.eco_net.proofs.Basics.{same_of_cmp, map_agree}
+use Rattle.eco_net.proofs.Basics.{Has, contains_from_has, same_of_cmp, map_agree}
 use Rattle.eco_net.proofs.Decide.{Shape, supply_net, computed_net, free_net, no_net, shape}
 use Rattle.eco_net.proofs.Grounded.{Grounded, grounded, all_grounded}
 use Rattle.eco_net.proofs.Values.{Solves, at, reads_agree, value, solves}
@@ -28,7 +28,7 @@ module _ (N : Netlist) (bits : CutKey → Bool) (v w : Name → Bool) (a : Solve
   same_value n (grounded below) = agree_by n (shape N n) (λ table ins c.
       a.computed n table ins c
       ∙ ap (look table) (reads_agree N bits v w ins (λ m h. agree_by m (shape N m) (λ t j d.
-      same_value m (below m (record { from = (t, j, d); table = table; inputs = ins; to = c; reads = h })))))
+      same_value m (below m (record { from = (t, j, d); table = table; inputs = ins; to = c; reads = contains_from_has ins (Some m) h })))))
       ∙ sym (b.computed n table ins c))
 
 -- ---- the values of a map, and a map of values

@@ -2,12 +2,12 @@
 use Rattle.std.proofs.Common.{◌≡◌, ℕ, zero, suc, ◌≤◌, max, Bool, false, List, [], ◌∷◌, map, Option, Some, None, refl, sym, ap, ap₂, ◌∙◌, subst, inl, inr, ⊎_elim, arith, le_trans, le_refl}
 use Rattle.std.proofs.Math.Nat.{le-max_left, le-max_right}
 use Rattle.std.specs.FinMap.{get}
-use Rattle.eco_net.specs.Netlist.{Name, Has, Netlist, role_of}
+use Rattle.eco_net.specs.Netlist.{Name, Netlist, role_of}
 use Rattle.eco_net.specs.Drivers.{Computed, IsComputed, IsFree}
 use Rattle.eco_net.specs.CutKeys.{KeyOf, CutKey, PinKey, NetKey}
 use Rattle.eco_net.specs.Walks.{IsLoopFree}
 use Rattle.eco_net.specs.Valuation.{look}
-use Rattle.eco_net.proofs.Basics.{same_Some, not_None, map_agree}
+use Rattle.eco_net.proofs.Basics.{Has, contains_from_has, same_Some, not_None, map_agree}
 use Rattle.eco_net.proofs.Decide.{Shape, supply_net, computed_net, free_net, no_net, shape, gate_is, same_table}
 use Rattle.eco_net.proofs.Grounded.{Grounded, grounded, all_grounded}
 
@@ -109,7 +109,7 @@ module _ (N : Netlist) (bits : CutKey → Bool) where
   all_settled n (grounded below) =
       let s = settled_by n (shape N n) (λ table ins c a h.
       elim (shape N a) [
-        | computed_net t i d ↦ all_settled a (below a (record { from = (t, i, d); table = table; inputs = ins; to = c; reads = h }))
+        | computed_net t i d ↦ all_settled a (below a (record { from = (t, i, d); table = table; inputs = ins; to = c; reads = contains_from_has ins (Some a) h }))
         | supply_net b e ↦ not_computed a (λ m. not_None (sym (same_Some (sym m.2.unsupplied ∙ e))))
         | free_net key f k ↦ not_computed a f.1
         | no_net e ↦ not_computed a (λ m. not_None (sym m.2.unsupplied ∙ e))

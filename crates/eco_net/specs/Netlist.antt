@@ -1,7 +1,8 @@
 -- Netlists: nets, components, their pins and top pins, all by name.
-use Rattle.std.specs.Prelude.{◌≡◌, ℕ, Bool, List, [], ◌∷◌, map, ◌++◌, ◌⊎◌, Option, Some}
+use Rattle.std.specs.Prelude.{◌≡◌, ℕ, Bool, List, [], map, ◌++◌, Option, Some, length, ◌^◌}
+use Rattle.std.specs.List.{Contains, IsDistinct}
 use Rattle.std.specs.declared.cmp.Ordering.{Ordering}
-use Rattle.std.specs.Ordering.{nat_cmp}
+use Rattle.std.specs.Ordering.{nat_cmp, eq_by_cmp}
 use Rattle.std.specs.Cmp.Lexicographic.{slice_cmp}
 use Rattle.std.specs.FinMap.{FinMap, get, find}
 use Rattle.eco_text.specs.declared.geometry.Dir.{Dir}
@@ -66,12 +67,18 @@ inputs_of x = map (get x.joined) (input_names x.kind)
 abbrev pub IsNet : Netlist → Name → Type 0
 IsNet N n = (s : Option Bool) × (get N.nets n ≡ Some s)
 
--- x stands in the list
-abbrev pub Has : {A : Type 0} → List A → A → Type 0
-Has [] x = ⊥
-Has (y ∷ ys) x = (y ≡ x) ⊎ Has ys x
+abbrev pub IsPin : Component → Name → Type 0
+IsPin x p = (r : Role) × (role_of x p ≡ Some r)
 
--- each net that a pin is on is a net of the netlist
+-- a bit for each row of a gate's inputs in each of its tables
+abbrev pub HasRows : Kind → Type 0
+HasRows (Gate inputs outputs) = (o : Name × List Bool) → Contains outputs o → length o.1 ≡ 2 ^ length inputs
+HasRows (Boxed pins) = Unit {0}
+
+-- A component's pins have distinct names, each table has its rows, and each pin that is on a net is a pin of its component
+-- and on a net of the netlist.
 pub record IsWhole (N : Netlist) : Type 0 where
-  pub pins : (c : Name) (x : Component) (p n : Name) → get N.comps c ≡ Some x → get x.joined p ≡ Some n → IsNet N n
+  pub names : (c : Name) (x : Component) → get N.comps c ≡ Some x → IsDistinct (eq_by_cmp name_cmp) (map (λ e. e.0) (pins_of x.kind))
+  pub rows : (c : Name) (x : Component) → get N.comps c ≡ Some x → HasRows x.kind
+  pub pins : (c : Name) (x : Component) (p n : Name) → get N.comps c ≡ Some x → get x.joined p ≡ Some n → IsPin x p × IsNet N n
   pub tops : (t : Name) (x : Top) → get N.tops t ≡ Some x → IsNet N x.net
