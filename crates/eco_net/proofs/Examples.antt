@@ -1,6 +1,6 @@
 -- A small netlist by computing the definitions: a half adder with a table for each of its two outputs, whose one input is the
 -- chip's and whose other is a register's, so a box's; a supply as the low tie net, a gate without inputs behind the high one;
--- and an inverter whose input is on no net and whose output meets an INOUT pin of the chip.
+-- an inverter whose input is on no net and whose output meets an INOUT pin of the chip; and a box with an INOUT pin.
 use Rattle.std.proofs.Common.{◌≡◌, ◌≢◌, ℕ, zero, suc, ◌<◌, Bool, true, false, List, [], ◌∷◌, map, Some, None, refl, sym, ap, ap₂, ◌∙◌, subst, inl, inr, codes, true≢false, arith}
 use Rattle.std.specs.Prelude.{slice_index_or, length}
 use Rattle.std.specs.List.{Contains, IsDistinct}
@@ -11,7 +11,7 @@ use Rattle.eco_net.specs.Netlist.{Name, Gate, Boxed, Netlist, Pin, TopPin, CompP
 use Rattle.eco_net.specs.Drivers.{driven, IsDriver, Computed, IsComputed, IsFree, IsSink, joined_at}
 use Rattle.eco_net.specs.Walks.{ReadsNet, IsLoopFree}
 use Rattle.eco_net.specs.Depth.{IsDepth, Behind}
-use Rattle.eco_net.specs.CutKeys.{PinKey, NetKey, KeyOf, IsCutKey, CutBits, is_source_at, is_source_top}
+use Rattle.eco_net.specs.CutKeys.{is_source_pin, PinKey, NetKey, KeyOf, IsCutKey, CutBits, is_source_at, is_source_top}
 use Rattle.eco_net.specs.Observables.{IsObservable, ObservedTop, ObservedAt, ObservedRole, observed, value_at}
 use Rattle.eco_net.specs.Valuation.{Valuation, IsValuation, HasOneValuation, look, read, row}
 use Rattle.eco_net.proofs.Lists.{Part, Lists, made, component, driver_by, driven_made, net_made, top_made, comp_made, joined_made, inputs_made, computed_by, free_top, free_box, free_several, EachReads, reads_by, whole_by, EachFits}
@@ -65,10 +65,13 @@ tie = (Gate [] ((codes "Y", true ∷ []) ∷ []), (codes "Y", codes "hi") ∷ []
 abbrev inverter : Part
 inverter = (Gate (codes "A" ∷ []) ((codes "Y", true ∷ false ∷ []) ∷ []), (codes "Y", codes "pad") ∷ [])
 
+abbrev pad : Part
+pad = (Boxed ((codes "IO", Inout) ∷ []), (codes "IO", codes "io") ∷ [])
+
 abbrev lists : Lists
 lists = record {
-  nets = (codes "vss", Some false) ∷ (codes "hi", None) ∷ (codes "a", None) ∷ (codes "q", None) ∷ (codes "sum", None) ∷ (codes "carry", None) ∷ (codes "pad", None) ∷ [];
-  comps = (codes "u1", half_adder) ∷ (codes "r1", register) ∷ (codes "t1", tie) ∷ (codes "i1", inverter) ∷ [];
+  nets = (codes "vss", Some false) ∷ (codes "hi", None) ∷ (codes "a", None) ∷ (codes "q", None) ∷ (codes "sum", None) ∷ (codes "carry", None) ∷ (codes "pad", None) ∷ (codes "io", None) ∷ [];
+  comps = (codes "u1", half_adder) ∷ (codes "r1", register) ∷ (codes "t1", tie) ∷ (codes "i1", inverter) ∷ (codes "p1", pad) ∷ [];
   tops = (codes "a", record { dir = Input; net = codes "a" }) ∷ (codes "s", record { dir = Output; net = codes "sum" }) ∷ (codes "pad", record { dir = Inout; net = codes "pad" }) ∷ [];
   low = codes "vss";
   high = codes "hi";
@@ -93,6 +96,9 @@ carry_driver = driver_by lists (codes "carry") (CompPin (codes "u1") (codes "C")
 
 high_driver : IsDriver N (codes "hi") (CompPin (codes "t1") (codes "Y"))
 high_driver = driver_by lists (codes "hi") (CompPin (codes "t1") (codes "Y")) refl refl
+
+io_driver : IsDriver N (codes "io") (CompPin (codes "p1") (codes "IO"))
+io_driver = driver_by lists (codes "io") (CompPin (codes "p1") (codes "IO")) refl refl
 
 pad_by_gate : driven N (CompPin (codes "i1") (codes "Y")) ≡ Some (codes "pad")
 pad_by_gate = driven_made lists (CompPin (codes "i1") (codes "Y"))
@@ -135,6 +141,9 @@ q_free = free_box N (codes "q") (codes "r1") (codes "Q") (component register) Ou
 pad_free : IsFree N (codes "pad")
 pad_free = free_several N (codes "pad") (CompPin (codes "i1") (codes "Y")) (TopPin (codes "pad")) (net_made lists (codes "pad")) pad_by_gate pad_by_top other_pins
 
+io_free : IsFree N (codes "io")
+io_free = free_box N (codes "io") (codes "p1") (codes "IO") (component pad) Inout (net_made lists (codes "io")) io_driver (comp_made lists (codes "p1")) refl
+
 -- ---- cut keys
 
 a_key : KeyOf N (codes "a") (PinKey (TopPin (codes "a")))
@@ -145,6 +154,10 @@ q_key = (q_driver, ap (λ o. is_source_at o (codes "Q")) (comp_made lists (codes
 
 pad_key : KeyOf N (codes "pad") (NetKey (codes "pad"))
 pad_key = (refl, λ p d s. no_pad_driver p d)
+
+-- an INOUT pin is no key, though it is the only driving pin of its net
+io_key : KeyOf N (codes "io") (NetKey (codes "io"))
+io_key = (refl, λ p d s. true≢false (sym s ∙ ap (is_source_pin N) (io_driver.only p d.drives) ∙ ap (λ o. is_source_at o (codes "IO")) (comp_made lists (codes "p1"))))
 
 cut_keys : IsCutKey N (PinKey (TopPin (codes "a"))) × (IsCutKey N (PinKey (CompPin (codes "r1") (codes "Q"))) × IsCutKey N (NetKey (codes "pad")))
 cut_keys = ((codes "a", a_free, a_key), ((codes "q", q_free, q_key), (codes "pad", pad_free, pad_key)))
@@ -162,6 +175,21 @@ at_register = subst (λ o. ObservedAt N o (codes "D")) (sym (comp_made lists (co
 
 at_inverter : IsObservable N (CompPin (codes "i1") (codes "Y"))
 at_inverter = subst (λ o. ObservedAt N o (codes "Y")) (sym (comp_made lists (codes "i1"))) (subst (λ n. ObservedRole N (Some (Computes (true ∷ false ∷ []))) n) (sym (joined_made inverter (codes "Y"))) pad_free)
+
+at_pad : IsObservable N (CompPin (codes "p1") (codes "IO"))
+at_pad = subst (λ o. ObservedAt N o (codes "IO")) (sym (comp_made lists (codes "p1"))) tt
+
+at_inout : IsObservable N (TopPin (codes "pad"))
+at_inout = subst ObservedTop (sym (top_made lists (codes "pad"))) (λ e. inout_input e)
+  where
+    inout_input : Inout ≡ Input → ⊥
+    inout_input e = cc
+
+not_at_input : IsObservable N (TopPin (codes "a")) → ⊥
+not_at_input h = subst ObservedTop (top_made lists (codes "a")) h refl
+
+not_at_gate_input : IsObservable N (CompPin (codes "u1") (codes "A")) → ⊥
+not_at_gate_input h = subst (λ o. ObservedAt N o (codes "A")) (comp_made lists (codes "u1")) h
 
 -- an output of a gate on a computed net is none
 not_at_adder : IsObservable N (CompPin (codes "u1") (codes "S")) → ⊥
@@ -194,7 +222,7 @@ each_fits = (
     (((refl, tt), (tt, tt)), tt, refl),
     (
       ((tt, tt), λ o c. one_row o (has_from_contains ((codes "Y", true ∷ []) ∷ []) o c), refl),
-      ((((refl, tt), (tt, tt)), λ o c. two_rows o (has_from_contains ((codes "Y", true ∷ false ∷ []) ∷ []) o c), refl), tt),
+      ((((refl, tt), (tt, tt)), λ o c. two_rows o (has_from_contains ((codes "Y", true ∷ false ∷ []) ∷ []) o c), refl), (((tt, tt), tt, refl), tt)),
     ),
   ),
 )
@@ -203,7 +231,7 @@ whole : IsWhole N
 whole = whole_by lists each_fits refl refl
 
 not_computed : EachReads (λ n. IsComputed N n → ⊥) lists.comps
-not_computed = (both, (none, (none, (one, tt))))
+not_computed = (both, (none, (none, (one, (none, tt)))))
   where
     both : (n : Name) → Has (Some (codes "a") ∷ Some (codes "q") ∷ []) (Some n) → IsComputed N n → ⊥
     both n (inl e) m = a_free.1 (subst (IsComputed N) (sym (same_Some e)) m)

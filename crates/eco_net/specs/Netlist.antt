@@ -1,4 +1,4 @@
--- Netlists: nets, components, their pins and top pins, all by name.
+-- Netlists: nets, components, their pins and top pins, all by name (LEF/DEF 5.8, "Components", "Pins", "Nets").
 use Rattle.std.specs.Prelude.{◌≡◌, ℕ, Bool, List, [], map, ◌++◌, Option, Some, length, ◌^◌}
 use Rattle.std.specs.List.{Contains, IsDistinct}
 use Rattle.std.specs.declared.cmp.Ordering.{Ordering}
