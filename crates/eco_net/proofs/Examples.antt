@@ -70,9 +70,9 @@ pad = (Boxed ((codes "IO", Inout) ∷ []), (codes "IO", codes "io") ∷ [])
 
 abbrev lists : Lists
 lists = record {
-  nets = (codes "vss", Some false) ∷ (codes "hi", None) ∷ (codes "a", None) ∷ (codes "q", None) ∷ (codes "sum", None) ∷ (codes "carry", None) ∷ (codes "pad", None) ∷ (codes "io", None) ∷ [];
+  nets = (codes "vss", Some false) ∷ (codes "hi", None) ∷ (codes "a", None) ∷ (codes "q", None) ∷ (codes "sum", None) ∷ (codes "carry", None) ∷ (codes "pad", None) ∷ (codes "io", None) ∷ (codes "bus", None) ∷ [];
   comps = (codes "u1", half_adder) ∷ (codes "r1", register) ∷ (codes "t1", tie) ∷ (codes "i1", inverter) ∷ (codes "p1", pad) ∷ [];
-  tops = (codes "a", record { dir = Input; net = codes "a" }) ∷ (codes "s", record { dir = Output; net = codes "sum" }) ∷ (codes "pad", record { dir = Inout; net = codes "pad" }) ∷ [];
+  tops = (codes "a", record { dir = Input; net = codes "a" }) ∷ (codes "s", record { dir = Output; net = codes "sum" }) ∷ (codes "pad", record { dir = Inout; net = codes "pad" }) ∷ (codes "bus", record { dir = Inout; net = codes "bus" }) ∷ [];
   low = codes "vss";
   high = codes "hi";
 }
@@ -99,6 +99,9 @@ high_driver = driver_by lists (codes "hi") (CompPin (codes "t1") (codes "Y")) re
 
 io_driver : IsDriver N (codes "io") (CompPin (codes "p1") (codes "IO"))
 io_driver = driver_by lists (codes "io") (CompPin (codes "p1") (codes "IO")) refl refl
+
+bus_driver : IsDriver N (codes "bus") (TopPin (codes "bus"))
+bus_driver = driver_by lists (codes "bus") (TopPin (codes "bus")) refl refl
 
 pad_by_gate : driven N (CompPin (codes "i1") (codes "Y")) ≡ Some (codes "pad")
 pad_by_gate = driven_made lists (CompPin (codes "i1") (codes "Y"))
@@ -144,6 +147,9 @@ pad_free = free_several N (codes "pad") (CompPin (codes "i1") (codes "Y")) (TopP
 io_free : IsFree N (codes "io")
 io_free = free_box N (codes "io") (codes "p1") (codes "IO") (component pad) Inout (net_made lists (codes "io")) io_driver (comp_made lists (codes "p1")) refl
 
+bus_free : IsFree N (codes "bus")
+bus_free = free_top N (codes "bus") (codes "bus") (net_made lists (codes "bus")) bus_driver
+
 -- ---- cut keys
 
 a_key : KeyOf N (codes "a") (PinKey (TopPin (codes "a")))
@@ -155,7 +161,10 @@ q_key = (q_driver, ap (λ o. is_source_at o (codes "Q")) (comp_made lists (codes
 pad_key : KeyOf N (codes "pad") (NetKey (codes "pad"))
 pad_key = (refl, λ p d s. no_pad_driver p d)
 
--- an INOUT pin is no key, though it is the only driving pin of its net
+-- INOUT pins are no keys, though each is the only driving pin of its net
+bus_key : KeyOf N (codes "bus") (NetKey (codes "bus"))
+bus_key = (refl, λ p d s. true≢false (sym s ∙ ap (is_source_pin N) (bus_driver.only p d.drives) ∙ ap is_source_top (top_made lists (codes "bus"))))
+
 io_key : KeyOf N (codes "io") (NetKey (codes "io"))
 io_key = (refl, λ p d s. true≢false (sym s ∙ ap (is_source_pin N) (io_driver.only p d.drives) ∙ ap (λ o. is_source_at o (codes "IO")) (comp_made lists (codes "p1"))))
 
