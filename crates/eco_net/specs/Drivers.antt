@@ -1,0 +1,71 @@
+-- Which pins drive a net, and which nets are computed or free.
+use Rattle.std.specs.Prelude.{◌≡◌, Bool, true, false, cond, List, Option, Some, None}
+use Rattle.std.specs.Option.{option_map}
+use Rattle.std.specs.FinMap.{get}
+use Rattle.eco_text.specs.declared.geometry.Dir.{Dir}
+use Rattle.eco_text.specs.declared.geometry.Dir.TheVariants.{Input, Output, Inout}
+use Rattle.eco_net.specs.Netlist.{Name, Netlist, Component, Top, Pin, TopPin, CompPin, Role, Reads, Computes, Outside, role_of, inputs_of}
+
+-- a gate's outputs, and OUTPUT and INOUT pins of a box
+abbrev pub is_driving : Option Role → Bool
+is_driving None = false
+is_driving (Some Reads) = false
+is_driving (Some (Computes t)) = true
+is_driving (Some (Outside Input)) = false
+is_driving (Some (Outside Output)) = true
+is_driving (Some (Outside Inout)) = true
+
+-- INPUT and INOUT pins of the chip
+abbrev pub drives_inward : Dir → Bool
+drives_inward Input = true
+drives_inward Output = false
+drives_inward Inout = true
+
+abbrev pub driven_at : Option Component → Name → Option Name
+driven_at None p = None
+driven_at (Some x) p = cond (is_driving (role_of x p)) (get x.joined p) None
+
+abbrev pub driven_top : Option Top → Option Name
+driven_top None = None
+driven_top (Some t) = cond (drives_inward t.dir) (Some t.net) None
+
+-- the net that a pin drives, if it is a driving pin and on a net
+abbrev pub driven : Netlist → Pin → Option Name
+driven N (TopPin t) = driven_top (get N.tops t)
+driven N (CompPin c p) = driven_at (get N.comps c) p
+
+-- p is the one driving pin of n
+pub record IsDriver (N : Netlist) (n : Name) (p : Pin) : Type 0 where
+  pub drives : driven N p ≡ Some n
+  pub only : (q : Pin) → driven N q ≡ Some n → q ≡ p
+
+abbrev pub joined_at : Option Component → Name → Option Name
+joined_at None p = None
+joined_at (Some x) p = get x.joined p
+
+-- the net that a pin is on
+abbrev pub net_of : Netlist → Pin → Option Name
+net_of N (TopPin t) = option_map (λ x. x.net) (get N.tops t)
+net_of N (CompPin c p) = joined_at (get N.comps c) p
+
+-- a pin of the net, but not its one driving pin
+abbrev pub IsSink : Netlist → Name → Pin → Type 0
+IsSink N n p = (net_of N p ≡ Some n) × (IsDriver N n p → ⊥)
+
+-- n is no supply, and its one driving pin is a gate's output, with this table and these nets at the gate's inputs
+pub record Computed (N : Netlist) (n : Name) (table : List Bool) (inputs : List (Option Name)) : Type 0 where
+  pub unsupplied : get N.nets n ≡ Some None
+  pub comp : Name
+  pub pin : Name
+  pub gate : Component
+  pub is : get N.comps comp ≡ Some gate
+  pub driver : IsDriver N n (CompPin comp pin)
+  pub at : role_of gate pin ≡ Some (Computes table)
+  pub reads : inputs_of gate ≡ inputs
+
+abbrev pub IsComputed : Netlist → Name → Type 0
+IsComputed N n = (table : List Bool) × (inputs : List (Option Name)) × Computed N n table inputs
+
+-- a net that is neither a supply nor computed
+abbrev pub IsFree : Netlist → Name → Type 0
+IsFree N n = (get N.nets n ≡ Some None) × (IsComputed N n → ⊥)

@@ -1,0 +1,10 @@
+//! Netlists by names: what drives a net, where values come from and are seen, and what a netlist computes.
+//!
+//! So far this crate holds the definitions and the laws that hold of each netlist; it has no code.
+#![tactic(auto)]
+
+mod laws;
+
+pub use crate::laws::{
+    closed_walk_shows, each_choice, each_net, one_cut_key, one_depth, one_valuation, ranks_show,
+};
