@@ -1,9 +1,11 @@
 -- The first object of a name, and the lists without it.
 use Rattle.std.specs.Str.{bytes_eq}
 use Rattle.std.specs.List.{remove}
-use Rattle.std.proofs.Common.{◌≡◌, ℕ, zero, suc, ◌<◌, Bool, true, false, List, [], ◌∷◌, length, map, get_or, Some, None, position, refl, ap, sym, ◌∙◌, arith, if◌then◌else◌}
+use Rattle.std.proofs.Common.{◌≡◌, ℕ, zero, suc, ◌+◌, ◌<◌, ◌≤◌, cond, not, Option, MatchOption, Bool, true, false, List, [], ◌∷◌, length, map, get_or, Some, None, position, refl, ap, sym, ◌∙◌, arith, if◌then◌else◌}
 use Rattle.std.proofs.Math.Path.{fun_ext}
 use Rattle.std.proofs.lemmas.List.Quantifiers.{position-Some}
+use Rattle.std.specs.List.{position_or_len}
+use Rattle.std.proofs.lemmas.Grind.{common_steps}
 use Rattle.std.proofs.lemmas.Slice.Eq.{bytes_eq-Decides}
 use Rattle.eco_text.specs.InMemory.{InMemory}
 use Rattle.eco_cli.specs.Laid.{Laid, ready}
@@ -54,3 +56,25 @@ opened view name ls ms i x at is removed =
     of : Ready InMemory → List ℕ → List InMemory
     of None n = []
     of (Some g) n = g n
+
+here_none : (b : Bool) (n m : ℕ) (x : InMemory) (xs : List InMemory) → suc n ≤ cond (not b) (1 + m) 0 → (n ≤ m → xs ≡ []) → (if b then x ∷ xs else xs) ≡ []
+here_none true n m x xs end rest = absurd (omega arith)
+here_none false n m x xs end rest = rest (omega arith)
+
+none_up_to : {A : Type 0} (view : A → Laid) (name : List ℕ) (ls : List A) → length ls ≤ position_or_len (λ l. bytes_eq (view l).name name) ls → ready (map view ls) name ≡ []
+none_up_to view name [] end = refl
+none_up_to view name (l ∷ ls) end =
+    here_none (bytes_eq (view l).name name) (length ls) (position_or_len (λ k. bytes_eq (view k).name name) ls) (view l).object (ready (map view ls) name) end (none_up_to view name ls)
+
+-- no place has the name
+pub none_laid : {A : Type 0} (view : A → Laid) (name : List ℕ) (ls : List A) → position (λ l. bytes_eq (view l).name name) ls ≡ None → ready (map view ls) name ≡ []
+none_laid view name ls none = none_up_to view name ls (end (λ l. bytes_eq (view l).name name) ls none)
+  where
+    end : {A : Type 0} (p : A → Bool) (ls : List A) → position p ls ≡ None → length ls ≤ position_or_len p ls
+    end p ls none = grind (arith, common_steps)
+
+-- the first place of a name, and that there is none
+pub place_of : {A : Type 0} (view : A → Laid) (name : List ℕ) (ls : List A) (r : Option ℕ) → r ≡ position (λ l. bytes_eq (view l).name name) ls →
+    MatchOption r (ready (map view ls) name ≡ []) (λ i. position (λ l. bytes_eq (view l).name name) ls ≡ Some i)
+place_of view name ls None is = none_laid view name ls (sym is)
+place_of view name ls (Some i) is = sym is

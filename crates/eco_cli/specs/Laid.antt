@@ -1,5 +1,5 @@
 -- Objects that are laid ready under names in memory.
-use Rattle.std.specs.Prelude.{ℕ, List, [], ◌∷◌, string_bytes, if◌then◌else◌}
+use Rattle.std.specs.Prelude.{◌≡◌, Some, Result, Ok, Err, ℕ, List, [], ◌∷◌, string_bytes, if◌then◌else◌}
 use Rattle.std.specs.Str.{bytes_eq}
 use Rattle.eco_text.specs.InMemory.{InMemory}
 use Rattle.eco_cli.specs.declared.laid.LaidSource.{LaidSource}
@@ -7,7 +7,9 @@ use Rattle.eco_cli.specs.declared.laid.LaidSink.{LaidSink}
 use Rattle.eco_cli.specs.declared.open.Open.{Open}
 use Rattle.eco_cli.specs.declared.open.OpenKind.{OpenKind}
 use Rattle.eco_cli.specs.declared.open.OpenKind.TheVariants.{Source, Sink}
-use Rattle.eco_cli.specs.Opens.{Asked, for_source, for_sink}
+use Rattle.eco_cli.specs.declared.host_fault.HostFault.{HostFault}
+use Rattle.eco_cli.specs.declared.host_fault.HostFault.TheVariants.{Refused, Memory}
+use Rattle.eco_cli.specs.Opens.{Told, Asked, for_source, for_sink}
 
 pub record Laid : Type 0 where
   pub name : List ℕ
@@ -43,3 +45,24 @@ asked_by Sink name = for_sink name
 
 abbrev pub asked_of : Open → Asked
 asked_of o = asked_by o.kind (string_bytes o.name)
+
+-- what a host in memory tells
+abbrev pub hosted : Told Hosted InMemory InMemory
+hosted = record {
+  sources = λ h. Some (ready h.sources);
+  sinks = λ h. Some (ready h.sinks);
+  asked = λ h. Some h.asked;
+  sources_back = λ h. Some h.sources_back;
+  sinks_back = λ h. Some h.sinks_back;
+  refused = λ h. h.refused;
+  read_faults = λ h. h.read_faults;
+  write_faults = λ h. h.write_faults;
+  open_sources = λ h. h.open_sources;
+  open_sinks = λ h. h.open_sinks;
+}
+
+-- an open is refused where nothing is laid ready under the name
+abbrev pub RefusesAbsent : {A : Type 0} → List InMemory → Result A HostFault → Type 0
+RefusesAbsent laid (Ok x) = Unit {0}
+RefusesAbsent laid (Err Refused) = laid ≡ []
+RefusesAbsent laid (Err Memory) = Unit {0}

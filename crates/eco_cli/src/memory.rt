@@ -1,8 +1,9 @@
 //! A host in memory.
 
-ghost use Rattle.std.specs.Prelude.{◌≡◌, ◌++◌, ◌<◌, [], ◌∷◌, map, position, string_bytes, vec_len, vec_capacity, OnOk, OnErr, IfOk};
+ghost use Rattle.std.specs.Prelude.{◌≡◌, ◌++◌, ◌<◌, [], ◌∷◌, map, position, string_bytes, vec_len, vec_capacity, Some, OnOk, OnErr, IfOk, MatchOption};
 ghost use Rattle.std.specs.Str.{bytes_eq};
-ghost use Rattle.eco_cli.specs.Laid.{laid_source, laid_sink, ready, asked_of, asked_by};
+ghost use Rattle.eco_cli.specs.Opens.{for_source, for_sink, Gives, Asks, Opens, Refuses};
+ghost use Rattle.eco_cli.specs.Laid.{laid_source, laid_sink, ready, hosted, asked_of, asked_by, RefusesAbsent};
 
 use crate::host::Host;
 use crate::host_fault::{HostFault, Memory};
@@ -46,16 +47,28 @@ impl Model for MemoryHost {
     } };
 }
 
-fn source_place(laid: &[LaidSource], name: &str) -> Option<usize>
+fn first_source(laid: &[LaidSource], name: &str) -> Option<usize>
     ensures { result ≡ position (λ l. bytes_eq (laid_source l).name name.now) laid.now }
 {
     laid.iter().position(|one| one.name.as_str() == name)
 }
 
-fn sink_place(laid: &[LaidSink], name: &str) -> Option<usize>
+fn source_place(laid: &[LaidSource], name: &str) -> Option<usize>
+    ensures { MatchOption result (ready (map laid_source laid.now) name.now ≡ []) (λ i. position (λ l. bytes_eq (laid_source l).name name.now) laid.now ≡ Some i) }
+{
+    first_source(laid, name)
+}
+
+fn first_sink(laid: &[LaidSink], name: &str) -> Option<usize>
     ensures { result ≡ position (λ l. bytes_eq (laid_sink l).name name.now) laid.now }
 {
     laid.iter().position(|one| one.name.as_str() == name)
+}
+
+fn sink_place(laid: &[LaidSink], name: &str) -> Option<usize>
+    ensures { MatchOption result (ready (map laid_sink laid.now) name.now ≡ []) (λ i. position (λ l. bytes_eq (laid_sink l).name name.now) laid.now ≡ Some i) }
+{
+    first_sink(laid, name)
 }
 
 /// An open to be recorded, and room for it.
@@ -127,23 +140,22 @@ impl Host for MemoryHost {
 
     type Output = ByteSink;
 
-    ghost use Rattle.std.specs.Prelude.{Some};
-    ghost use Rattle.eco_cli.specs.Laid.{ready};
+    ghost told = { hosted };
 
-    ghost told = { record {
-      sources = λ h. Some (ready h.sources);
-      sinks = λ h. Some (ready h.sinks);
-      asked = λ h. Some h.asked;
-      sources_back = λ h. Some h.sources_back;
-      sinks_back = λ h. Some h.sinks_back;
-      refused = λ h. h.refused;
-      read_faults = λ h. h.read_faults;
-      write_faults = λ h. h.write_faults;
-      open_sources = λ h. h.open_sources;
-      open_sinks = λ h. h.open_sinks;
-    } };
-
-    fn source(&mut self, name: &str) -> Result<ByteSource, HostFault> {
+    fn source(&mut self, name: &str) -> Result<ByteSource, HostFault>
+        ensures absent { RefusesAbsent (ready self.old.sources name.now) result }
+        ensures fresh { IfOk result (λ s. s.faults ≡ 0) }
+        ensures given { Gives name.now (hosted.sources self.old) (hosted.sources self.new) result }
+        ensures asks { Asks (for_source name.now) (hosted.asked self.old) (hosted.asked self.new) result }
+        ensures refusals { Refuses (hosted.refused self.old) (hosted.refused self.new) result }
+        ensures open { Opens (hosted.open_sources self.old) (hosted.open_sources self.new) result }
+        ensures sinks { hosted.sinks self.new ≡ hosted.sinks self.old }
+        ensures sources_back { hosted.sources_back self.new ≡ hosted.sources_back self.old }
+        ensures sinks_back { hosted.sinks_back self.new ≡ hosted.sinks_back self.old }
+        ensures reads { hosted.read_faults self.new ≡ hosted.read_faults self.old }
+        ensures writes { hosted.write_faults self.new ≡ hosted.write_faults self.old }
+        ensures open_sinks { hosted.open_sinks self.new ≡ hosted.open_sinks self.old }
+    {
         let Ok(open) = new_open(&mut self.opens, OpenKind::Source, name) else {
             return Err(HostFault::Memory);
         };
@@ -160,7 +172,21 @@ impl Host for MemoryHost {
         Ok(source)
     }
 
-    fn sink(&mut self, name: &str) -> Result<ByteSink, HostFault> {
+    fn sink(&mut self, name: &str) -> Result<ByteSink, HostFault>
+        ensures absent { RefusesAbsent (ready self.old.sinks name.now) result }
+        ensures fresh { IfOk result (λ k. k.faults ≡ 0) }
+        ensures empty { IfOk result (λ k. k.bytes ≡ []) }
+        ensures given { Gives name.now (hosted.sinks self.old) (hosted.sinks self.new) result }
+        ensures asks { Asks (for_sink name.now) (hosted.asked self.old) (hosted.asked self.new) result }
+        ensures refusals { Refuses (hosted.refused self.old) (hosted.refused self.new) result }
+        ensures open { Opens (hosted.open_sinks self.old) (hosted.open_sinks self.new) result }
+        ensures sources { hosted.sources self.new ≡ hosted.sources self.old }
+        ensures sources_back { hosted.sources_back self.new ≡ hosted.sources_back self.old }
+        ensures sinks_back { hosted.sinks_back self.new ≡ hosted.sinks_back self.old }
+        ensures reads { hosted.read_faults self.new ≡ hosted.read_faults self.old }
+        ensures writes { hosted.write_faults self.new ≡ hosted.write_faults self.old }
+        ensures open_sources { hosted.open_sources self.new ≡ hosted.open_sources self.old }
+    {
         let Ok(open) = new_open(&mut self.opens, OpenKind::Sink, name) else {
             return Err(HostFault::Memory);
         };
