@@ -1,3 +1,6 @@
 pub mod Powers
 pub mod BitText
 pub mod PinNames
+pub mod DocumentLemmas
+pub mod Finding
+pub mod ByName

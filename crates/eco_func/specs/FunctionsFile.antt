@@ -3,8 +3,12 @@
 --   [NAND2]
 --   inputs = ["A", "B"]
 --   outputs = { Y = "1110" }
-use Rattle.std.specs.Prelude.{◌≡◌, ℕ, ◌+◌, ◌^◌, Bool, ◌&&◌, ◌||◌, ◌==◌, nat_le, if◌then◌else◌, List, [], ◌∷◌, map, length, codes, Option, Some, None, option_map, option_and_then}
+use Rattle.std.specs.Prelude.{◌≡◌, ℕ, ◌+◌, ◌^◌, Bool, false, ◌&&◌, ◌||◌, ◌==◌, nat_le, if◌then◌else◌, List, [], ◌∷◌, map, length, codes, Option, Some, None, option_map, option_and_then}
 use Rattle.std.specs.List.{list_all, find}
+use Rattle.std.specs.Option.{option_map_or}
+use Rattle.std.specs.List.Sorted.{IsStrictlySortedBy}
+use Rattle.std.specs.Ordering.{nat_cmp}
+use Rattle.std.specs.Cmp.Lexicographic.{slice_cmp}
 use Rattle.std.specs.Str.{IsUtf8, bytes_eq}
 use Rattle.toml.specs.Data.{Data, Items, no_items, item, Members, no_members, member, get, as_str, as_array, as_table}
 use Rattle.toml.specs.Parse.{parse_document}
@@ -56,13 +60,16 @@ inputs_in d = get (codes "inputs") d >>= as_array >>= texts_of
 abbrev pub outputs_in : ℕ → Data → Option (List OutputFn)
 outputs_in m d = get (codes "outputs") d >>= as_table >>= outputs_of m
 
--- A master's table has the fields `inputs` and `outputs`, and so two fields in all.
+-- Whether a value is a table of two fields.
+abbrev pub has_two_fields : Data → Bool
+has_two_fields d = option_map_or (λ fields. member_count fields == 2) (as_table d) false
+
+-- A master is a table with the fields `inputs` and `outputs`, and no other.
 abbrev pub master_of : List ℕ → Data → Option MasterTables
 master_of name d =
-    as_table d >>= (λ fields.
-      if member_count fields == 2
-      then inputs_in d >>= (λ inputs. outputs_in (length inputs) d >>= master name inputs)
-      else None)
+    if has_two_fields d
+    then inputs_in d >>= (λ inputs. outputs_in (length inputs) d >>= master name inputs)
+    else None
 
 -- ---- the document
 
@@ -75,6 +82,10 @@ masters_of (member name d ms) =
 -- At most 16,384 masters.
 abbrev pub functions_of : Members → Option (List MasterTables)
 functions_of ms = if nat_le (member_count ms) 16384 then masters_of ms else None
+
+-- Names ascend by their bytes, so that none stands twice.
+abbrev pub IsByName : List MasterTables → Type 0
+IsByName functions = IsStrictlySortedBy (slice_cmp nat_cmp) (map (λ m. m.name) functions)
 
 -- The functions that a text gives: those of the TOML document that it writes.
 pub record Gives (text : List ℕ) (functions : List MasterTables) : Type 0 where
