@@ -1,5 +1,5 @@
 -- A table's text, character by character.
-use Rattle.std.proofs.Common.{◌≡◌, ℕ, suc, ◌+◌, ◌*◌, ◌^◌, ◌<◌, ◌≤◌, List, ◌∷◌, length, map, drop, get_or, arith, ap, ◌∙◌, drop-cons, add-one, sym, subst}
+use Rattle.std.proofs.Common.{◌≡◌, ℕ, suc, ◌+◌, ◌*◌, ◌^◌, ◌<◌, List, ◌∷◌, length, map, drop, get_or, arith, ap, ◌∙◌, drop-cons, add-one}
 use Rattle.std.proofs.Math.Nat.{pow-suc}
 use Rattle.std.specs.List.{list_all}
 use Rattle.eco_func.specs.Tables.{row}
@@ -22,9 +22,9 @@ pub read_zero : (text : List ℕ) (bits place : ℕ) → drop place text ≡ 48 
 read_zero text bits place e r = record {
   checked = r.checked ∙ ap (list_all is_bit) e;
   value =
-    let left = row (map is_one (drop (place + 1) text)) in
-    let v : row (map is_one text) ≡ bits + 2 ^ place * (0 + 2 * left) = r.value ∙ ap (λ l. bits + 2 ^ place * row (map is_one l)) e in
-    omega (arith, v, ap (λ p. p * left) (doubled place));
+      let left = row (map is_one (drop (place + 1) text)) in
+      let v : row (map is_one text) ≡ bits + 2 ^ place * (0 + 2 * left) = r.value ∙ ap (λ l. bits + 2 ^ place * row (map is_one l)) e in
+      omega (arith, v, ap (λ p. p * left) (doubled place));
   fits = omega (arith, r.fits, doubled place);
 }
 
@@ -32,8 +32,8 @@ pub read_one : (text : List ℕ) (bits place : ℕ) → drop place text ≡ 49 �
 read_one text bits place e r = record {
   checked = r.checked ∙ ap (list_all is_bit) e;
   value =
-    let left = row (map is_one (drop (place + 1) text)) in
-    let v : row (map is_one text) ≡ bits + 2 ^ place * (1 + 2 * left) = r.value ∙ ap (λ l. bits + 2 ^ place * row (map is_one l)) e in
-    omega (arith, v, ap (λ p. p * left) (doubled place));
+      let left = row (map is_one (drop (place + 1) text)) in
+      let v : row (map is_one text) ≡ bits + 2 ^ place * (1 + 2 * left) = r.value ∙ ap (λ l. bits + 2 ^ place * row (map is_one l)) e in
+      omega (arith, v, ap (λ p. p * left) (doubled place));
   fits = omega (arith, r.fits, doubled place);
 }

@@ -15,8 +15,8 @@ pushed done x (Some xs) = ap Some (sym (append_assoc done (x ∷ []) xs))
 
 -- a turn of the loop over the outputs
 pub outputs_step : (m : ℕ) (all : Option (List OutputFn)) (done done' : List OutputFn) (es es' : List (String Global × Value)) (k : String Global) (v : Value) (pin : List ℕ) (t : TruthTable)
-  → es ≡ (k, v) ∷ es' → done' ≡ done ++ record { pin = pin; table = t } ∷ [] → pin ≡ string_bytes k → Some t ≡ (as_str (view v) >>= table_of m)
-  → all ≡ option_map (λ more. done ++ more) (outputs_of m (members_view es)) → all ≡ option_map (λ more. done' ++ more) (outputs_of m (members_view es'))
+    → es ≡ (k, v) ∷ es' → done' ≡ done ++ record { pin = pin; table = t } ∷ [] → pin ≡ string_bytes k → Some t ≡ (as_str (view v) >>= table_of m)
+    → all ≡ option_map (λ more. done ++ more) (outputs_of m (members_view es)) → all ≡ option_map (λ more. done' ++ more) (outputs_of m (members_view es'))
 outputs_step m all done done' es es' k v pin t front last named e h =
     let rest = outputs_of m (members_view es') in
     h ∙ ap (λ it. option_map (λ more. done ++ more) (outputs_of m (members_view it))) front
@@ -27,8 +27,8 @@ outputs_step m all done done' es es' k v pin t front last named e h =
 
 -- a turn of the loop over the masters
 pub masters_step : (all : Option (List MasterTables)) (done done' : List MasterTables) (es es' : List (String Global × Value)) (k : String Global) (v : Value) (m : MasterTables)
-  → es ≡ (k, v) ∷ es' → done' ≡ done ++ m ∷ [] → Some m ≡ master_of (string_bytes k) (view v)
-  → all ≡ option_map (λ more. done ++ more) (masters_of (members_view es)) → all ≡ option_map (λ more. done' ++ more) (masters_of (members_view es'))
+    → es ≡ (k, v) ∷ es' → done' ≡ done ++ m ∷ [] → Some m ≡ master_of (string_bytes k) (view v)
+    → all ≡ option_map (λ more. done ++ more) (masters_of (members_view es)) → all ≡ option_map (λ more. done' ++ more) (masters_of (members_view es'))
 masters_step all done done' es es' k v m front last e h =
     let rest = masters_of (members_view es') in
     h ∙ ap (λ it. option_map (λ more. done ++ more) (masters_of (members_view it))) front

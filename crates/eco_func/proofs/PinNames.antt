@@ -1,5 +1,5 @@
 -- Distinct pins, name by name.
-use Rattle.std.proofs.Common.{◌≡◌, ℕ, suc, ◌+◌, ◌<◌, ◌||◌, ◌&&◌, not, Bool, true, false, List, [], ◌∷◌, ◌++◌, length, map, take, drop, ◌-◌, length-drop, get_or, refl, ap, ◌∙◌, sym, drop-cons, add-one, arith}
+use Rattle.std.proofs.Common.{◌≡◌, ℕ, suc, ◌+◌, ◌<◌, ◌||◌, ◌&&◌, not, Bool, true, false, List, [], ◌∷◌, length, map, take, drop, ◌-◌, length-drop, get_or, refl, ap, ◌∙◌, sym, drop-cons, add-one, arith}
 use Rattle.std.proofs.lemmas.List.{take_all}
 use Rattle.std.specs.List.{list_any}
 use Rattle.std.specs.Str.{bytes_eq}
@@ -20,7 +20,7 @@ module _ (outputs : List OutputFn) (i : ℕ) (o : OutputFn) (b : Bool) (left : d
   pin_step =
       ap (λ xs. all_differ (map (λ x. x.pin) xs)) left
       ∙ ap (λ t. not t && all_differ (map (λ x. x.pin) (drop (i + 1) outputs)))
-        (list_any-map (bytes_eq o.pin) (λ x. x.pin) (drop (i + 1) outputs) ∙ sym again)
+      (list_any-map (bytes_eq o.pin) (λ x. x.pin) (drop (i + 1) outputs) ∙ sym again)
 
   pub pin_again : b ≡ true → all_differ (map (λ x. x.pin) (drop i outputs)) ≡ false
   pin_again t = pin_step ∙ ap (λ t. not t && all_differ (map (λ x. x.pin) (drop (i + 1) outputs))) t
@@ -34,9 +34,9 @@ module _ (inputs : List (List ℕ)) (outputs : List OutputFn) (i : ℕ) (n : Lis
   input_step =
       ap (λ xs. all_differ (pins xs outputs)) left
       ∙ ap (λ t. not t && all_differ (pins (drop (i + 1) inputs) outputs))
-        (list_any-append (bytes_eq n) (drop (i + 1) inputs) (map (λ x. x.pin) outputs)
-         ∙ ap (λ t. list_any (bytes_eq n) (drop (i + 1) inputs) || t) (list_any-map (bytes_eq n) (λ x. x.pin) outputs ∙ sym driven)
-         ∙ ap (λ t. t || c) (sym again))
+      (list_any-append (bytes_eq n) (drop (i + 1) inputs) (map (λ x. x.pin) outputs)
+      ∙ ap (λ t. list_any (bytes_eq n) (drop (i + 1) inputs) || t) (list_any-map (bytes_eq n) (λ x. x.pin) outputs ∙ sym driven)
+      ∙ ap (λ t. t || c) (sym again))
 
   pub input_again : (b || c) ≡ true → all_differ (pins (drop i inputs) outputs) ≡ false
   input_again t = input_step ∙ ap (λ t. not t && all_differ (pins (drop (i + 1) inputs) outputs)) t

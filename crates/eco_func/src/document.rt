@@ -12,8 +12,8 @@ use crate::name::Name;
 use crate::output::OutputFn;
 use crate::table::Table as TruthTable;
 use std::alloc::Global;
-use toml::value::{Array, Table};
 use toml::Value;
+use toml::value::{Array, Table};
 
 /// The texts of a list that has nothing else.
 fn texts(alloc: Global, list: &Array) -> Result<Option<Vec<Name>>, Memory>
@@ -122,11 +122,7 @@ fn read_master(alloc: Global, name: &str, value: &Value) -> Result<Option<Master
         return Ok(None);
     }
     match outputs_of_master(alloc, inputs.len() as u8, value)? {
-        Some(outputs) => Ok(MasterFn::new(
-            Name::of(alloc, name.as_bytes())?,
-            inputs,
-            outputs,
-        )),
+        Some(outputs) => Ok(MasterFn::new(Name::of(alloc, name.as_bytes())?, inputs, outputs)),
         None => Ok(None),
     }
 }

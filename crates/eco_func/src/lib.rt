@@ -23,3 +23,6 @@ pub use crate::name::Name;
 pub use crate::output::OutputFn;
 pub use crate::read::read_functions;
 pub use crate::table::Table;
+
+#[cfg(test)]
+mod tests;

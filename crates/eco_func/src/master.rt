@@ -91,7 +91,9 @@ fn are_few(inputs: usize, outputs: usize) -> bool
 fn are_over(inputs: usize, outputs: &[OutputFn]) -> bool
     ensures { result ≡ list_all (λ o. o.table.inputs == inputs) outputs.now }
 {
-    outputs.iter().all(|output| output.table.inputs() as usize == inputs)
+    outputs
+        .iter()
+        .all(|output| output.table.inputs() as usize == inputs)
 }
 
 /// Whether all pins have distinct names.

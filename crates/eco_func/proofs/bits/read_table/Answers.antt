@@ -1,6 +1,6 @@
 use Rattle.std.proofs.Common.{arith}
 use Rattle.std.proofs.lemmas.Nat.{one_shl}
-use Rattle.eco_func.proofs.Powers.{few_rows, rows_shifted}
+use Rattle.eco_func.proofs.Powers.{few_rows}
 use Rattle.eco_func.proofs.bits.read_table.Goals as goal
 
 pub bits_of-requires : goal.bits_of-requires

@@ -1,4 +1,4 @@
-use Rattle.std.proofs.Common.{◌≡◌, ◌∙◌, ap, nat_eq, Some, sym, ◌==◌, false}
+use Rattle.std.proofs.Common.{◌∙◌, ap, nat_eq, sym, ◌==◌, false}
 use Rattle.std.specs.Option.{option_map_or}
 use Rattle.eco_func.specs.FunctionsFile.{member_count}
 use Rattle.eco_func.proofs.DocumentLemmas.{member_count-view}

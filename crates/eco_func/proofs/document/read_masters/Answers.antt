@@ -1,4 +1,4 @@
-use Rattle.std.proofs.Common.{◌≡◌, ◌∙◌, ap, Some, sym}
+use Rattle.std.proofs.Common.{◌∙◌, ap, sym}
 use Rattle.toml.specs.View.{table_view, view}
 use Rattle.eco_func.specs.FunctionsFile.{masters_of, master_of}
 use Rattle.eco_func.proofs.DocumentLemmas.{masters_step}

@@ -1,4 +1,4 @@
-use Rattle.std.proofs.Common.{◌≡◌, map, drop}
+use Rattle.std.proofs.Common.{◌≡◌, drop}
 use Rattle.eco_func.specs.Masters.{all_differ, pins}
 use Rattle.eco_func.proofs.master.inputs_differ.Given as goal
 

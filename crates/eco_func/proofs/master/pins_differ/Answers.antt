@@ -8,7 +8,7 @@ returns-then-is_pin c =
     let i = c.loop-place.place in
     let o = c.index-outputs-place.result in
     sym (c.loop-place.invariant
-      ∙ pin_again os i o c.is_pin.result (left_from os i o c.loop-place-test.true c.index-outputs-place.is) (c.is_pin.ensures ∙ rest_at os (i + 1) _) c.if-is_pin.true)
+    ∙ pin_again os i o c.is_pin.result (left_from os i o c.loop-place-test.true c.index-outputs-place.is) (c.is_pin.ensures ∙ rest_at os (i + 1) _) c.if-is_pin.true)
 
 pub loop-place-preserved : goal.loop-place-preserved
 loop-place-preserved c =
