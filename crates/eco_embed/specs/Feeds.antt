@@ -1,0 +1,31 @@
+-- What feeds make of a row.
+use Rattle.std.specs.Prelude.{ℕ, ◌/◌, ◌%◌, ◌^◌, ◌+◌, ◌==◌, nat_lt, Bool, true, false, List, map}
+use Rattle.eco_embed.specs.declared.feed.Feed.{Feed}
+use Rattle.eco_embed.specs.declared.feed.Feed.TheVariants.{Zero, One, Input}
+use Rattle.eco_func.specs.Tables.{row}
+
+-- The value of input i at a row.
+abbrev pub bit : ℕ → ℕ → Bool
+bit r i = r / 2 ^ i % 2 == 1
+
+-- The value that a feed has at a row of the gate's inputs.
+abbrev pub feed_bit : ℕ → Feed → Bool
+feed_bit r Zero = false
+feed_bit r One = true
+feed_bit r (Input i) = bit r i
+
+-- The row of the master's inputs that the feeds make of a row of the gate's inputs.
+abbrev pub fed_row : List Feed → ℕ → ℕ
+fed_row feeds r = row (map (feed_bit r) feeds)
+
+-- Whether a feed is a constant or one of so many inputs.
+abbrev pub is_among : ℕ → Feed → Bool
+is_among k Zero = true
+is_among k One = true
+is_among k (Input i) = nat_lt i k
+
+-- Feeds in order: Zero, One, Input 0, Input 1 and so on.
+abbrev pub rank : Feed → ℕ
+rank Zero = 0
+rank One = 1
+rank (Input i) = i + 2

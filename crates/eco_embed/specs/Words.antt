@@ -1,0 +1,13 @@
+-- A function of several pins as a list of words: the word at a row of the pins has a bit for each row of the gate.
+use Rattle.std.specs.Prelude.{◌≡◌, ℕ, ◌^◌, ◌<◌, ◌==◌, Bool, List, slice_index}
+use Rattle.eco_embed.specs.declared.feed.Feed.{Feed}
+use Rattle.eco_embed.specs.Feeds.{bit, fed_row}
+use Rattle.eco_func.specs.Tables.{TruthTable, at}
+
+-- The value at a row of the gate with these feeds on the pins.
+abbrev pub value : List ℕ → List Feed → ℕ → Bool
+value words feeds r = bit (slice_index words (fed_row feeds r)) r
+
+-- The feeds give the table that is wanted.
+abbrev pub Meets : TruthTable → List ℕ → List Feed → Type 0
+Meets want words feeds = (r : ℕ) → r < 2 ^ want.inputs → value words feeds r ≡ at want r

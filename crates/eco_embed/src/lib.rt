@@ -1,0 +1,12 @@
+//! Constant insertion: a gate's function in a master, with the master's inputs tied to 0 or 1 or put on the gate's
+//! inputs.
+#![tactic(auto)]
+
+mod embedding;
+mod feed;
+
+mod words;
+
+pub use crate::embedding::Embedding;
+pub use crate::feed::Feed;
+
