@@ -1,2 +1,4 @@
 pub mod Columns
 pub mod RowBits
+pub mod Folding
+pub mod Serving

@@ -24,6 +24,10 @@ is_among k Zero = true
 is_among k One = true
 is_among k (Input i) = nat_lt i k
 
+abbrev pub is_zero : Feed → Bool
+is_zero Zero = true
+is_zero _ = false
+
 -- Feeds in order: Zero, One, Input 0, Input 1 and so on.
 abbrev pub rank : Feed → ℕ
 rank Zero = 0

@@ -1,7 +1,7 @@
 -- A function of several pins as a list of words: the word at a row of the pins has a bit for each row of the gate.
-use Rattle.std.specs.Prelude.{◌≡◌, ℕ, ◌^◌, ◌<◌, ◌==◌, Bool, List, slice_index}
+use Rattle.std.specs.Prelude.{◌≡◌, ℕ, ◌+◌, ◌*◌, ◌^◌, ◌<◌, Bool, List, length, slice_index, if◌then◌else◌}
 use Rattle.eco_embed.specs.declared.feed.Feed.{Feed}
-use Rattle.eco_embed.specs.Feeds.{bit, fed_row}
+use Rattle.eco_embed.specs.Feeds.{bit, feed_bit, fed_row}
 use Rattle.eco_func.specs.Tables.{TruthTable, at}
 
 -- The value at a row of the gate with these feeds on the pins.
@@ -11,3 +11,9 @@ value words feeds r = bit (slice_index words (fed_row feeds r)) r
 -- The feeds give the table that is wanted.
 abbrev pub Meets : TruthTable → List ℕ → List Feed → Type 0
 Meets want words feeds = (r : ℕ) → r < 2 ^ want.inputs → value words feeds r ≡ at want r
+
+-- The words of what is left where the first pin has this feed.
+abbrev pub IsFed : List ℕ → List ℕ → Feed → Type 0
+IsFed words left feed =
+    (s r : ℕ) → r < 64 → 2 * s + 1 < length words
+    → bit (slice_index left s) r ≡ (if feed_bit r feed then bit (slice_index words (2 * s + 1)) r else bit (slice_index words (2 * s)) r)

@@ -4,9 +4,9 @@
 
 mod embedding;
 mod feed;
-
+mod fit;
 mod words;
 
 pub use crate::embedding::Embedding;
 pub use crate::feed::Feed;
-
+pub use crate::fit::fits;
