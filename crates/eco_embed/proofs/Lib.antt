@@ -2,3 +2,4 @@ pub mod Columns
 pub mod RowBits
 pub mod Folding
 pub mod Serving
+pub mod Searching

@@ -1,7 +1,12 @@
 -- A function of several pins as a list of words: the word at a row of the pins has a bit for each row of the gate.
-use Rattle.std.specs.Prelude.{◌≡◌, ℕ, ◌+◌, ◌*◌, ◌^◌, ◌<◌, Bool, List, length, slice_index, if◌then◌else◌}
+use Rattle.std.specs.Prelude.{◌≡◌, ◌≢◌, ℕ, ◌+◌, ◌-◌, ◌*◌, ◌^◌, ◌<◌, Bool, true, List, ◌++◌, map, length, replicate, slice_index, if◌then◌else◌}
+use Rattle.std.specs.List.{list_all}
+use Rattle.std.specs.Ordering.{nat_cmp}
+use Rattle.std.specs.declared.cmp.Ordering.TheVariants.{Greater}
+use Rattle.std.specs.Cmp.Lexicographic.{slice_cmp}
+use Rattle.eco_embed.specs.declared.feed.Feed.TheVariants.{Zero}
 use Rattle.eco_embed.specs.declared.feed.Feed.{Feed}
-use Rattle.eco_embed.specs.Feeds.{bit, feed_bit, fed_row}
+use Rattle.eco_embed.specs.Feeds.{bit, feed_bit, fed_row, is_among, rank}
 use Rattle.eco_func.specs.Tables.{TruthTable, at}
 
 -- The value at a row of the gate with these feeds on the pins.
@@ -17,3 +22,23 @@ abbrev pub IsFed : List ℕ → List ℕ → Feed → Type 0
 IsFed words left feed =
     (s r : ℕ) → r < 64 → 2 * s + 1 < length words
     → bit (slice_index left s) r ≡ (if feed_bit r feed then bit (slice_index words (2 * s + 1)) r else bit (slice_index words (2 * s)) r)
+
+-- Feeds of so many pins, each a constant or an input of the gate.
+abbrev pub AreFeeds : TruthTable → ℕ → List Feed → Type 0
+AreFeeds want pins feeds = (length feeds ≡ pins) × (list_all (is_among want.inputs) feeds ≡ true)
+
+-- No feeds of so many pins give the wanted table.
+abbrev pub NoFeeds : TruthTable → List ℕ → ℕ → Type 0
+NoFeeds want words pins = (feeds : List Feed) → AreFeeds want pins feeds → ¬ Meets want words feeds
+
+-- Feeds in order, pin by pin from the first.
+abbrev pub IsNoLaterFeed : List Feed → List Feed → Type 0
+IsNoLaterFeed feeds others = slice_cmp nat_cmp (map rank feeds) (map rank others) ≢ Greater
+
+-- Of six places the first have the first feeds that give the wanted table, and the others Zero.
+pub record FirstFeeds (want : TruthTable) (words : List ℕ) (pins : ℕ) (places : List Feed) : Type 0 where
+  pub feeds : List Feed
+  pub are : AreFeeds want pins feeds
+  pub meets : Meets want words feeds
+  pub shape : places ≡ feeds ++ replicate (6 - pins) Zero
+  pub first : (others : List Feed) → AreFeeds want pins others → Meets want words others → IsNoLaterFeed feeds others

@@ -5,6 +5,7 @@
 mod embedding;
 mod feed;
 mod fit;
+mod search;
 mod words;
 
 pub use crate::embedding::Embedding;
