@@ -27,7 +27,7 @@ pub half : (words : List ℕ) (n : ℕ) → length words ≡ 2 ^ suc n → lengt
 half words n e = omega (arith, e, pow-suc 2 n)
 
 pub fed_value : (words left : List ℕ) (f : Feed) (fs : List Feed) (r : ℕ) → r < 64 → length words ≡ 2 ^ suc (length fs) → IsFed words left f
-  → value (take (length words / 2) left) fs r ≡ value words (f ∷ fs) r
+    → value (take (length words / 2) left) fs r ≡ value words (f ∷ fs) r
 fed_value words left f fs r small e halves =
     let s = fed_row fs r in
     let below = fed_row_below fs r in

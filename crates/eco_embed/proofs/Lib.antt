@@ -3,3 +3,4 @@ pub mod RowBits
 pub mod Folding
 pub mod Serving
 pub mod Searching
+pub mod Outputs

@@ -53,9 +53,10 @@ low_bit w k r h = sym (bit_at_cat_low (w / 2 ^ k) k (w % 2 ^ k) r h) ∙ ap (λ 
 
 -- a word's low bits are a number's bits
 pub agree : (w b k : ℕ) → b < 2 ^ k → (w % 2 ^ k ≡ b) ↔ ((r : ℕ) → r < k → bit w r ≡ bit b r)
-agree w b k fits =
-    (λ e r h. ap (λ x. x == 1) (sym (low_bit w k r h) ∙ ap (λ n. bit_at n r) e),
-     λ same. same_from_bits_below k (w % 2 ^ k) b (omega arith) fits (λ r h. low_bit w k r h ∙ same_bit (bit_at w r) (bit_at b r) (bit_at-lt w r) (bit_at-lt b r) (same r h)))
+agree w b k fits = (
+  λ e r h. ap (λ x. x == 1) (sym (low_bit w k r h) ∙ ap (λ n. bit_at n r) e),
+  λ same. same_from_bits_below k (w % 2 ^ k) b (omega arith) fits (λ r h. low_bit w k r h ∙ same_bit (bit_at w r) (bit_at b r) (bit_at-lt w r) (bit_at-lt b r) (same r h)),
+)
 
 -- all ones, but for the rows past the last
 pub masked : (w rows : ℕ) → 0 < rows → rows ≤ 64 → bit_and w (18446744073709551615 / 2 ^ (64 - rows)) ≡ w % 2 ^ rows

@@ -8,8 +8,8 @@ use Rattle.std.specs.Cmp.Lexicographic.{slice_cmp}
 use Rattle.eco_func.specs.Tables.{TruthTable, at}
 use Rattle.eco_embed.specs.declared.feed.Feed.{Feed}
 use Rattle.eco_embed.specs.declared.feed.Feed.TheVariants.{Zero, One, Input}
-use Rattle.eco_embed.specs.Feeds.{is_among, rank}
-use Rattle.eco_embed.specs.Words.{Meets, IsFed, AreFeeds, NoFeeds, FirstFeeds, IsNoLaterFeed}
+use Rattle.eco_embed.specs.Feeds.{is_among, rank, IsNoLaterFeed}
+use Rattle.eco_embed.specs.Words.{Meets, IsFed, AreFeeds, NoFeeds, FirstFeeds}
 use Rattle.eco_embed.proofs.Folding.{rest_meets, meets_rest}
 
 -- no feeds that begin with a feed of a lower number give the wanted table
@@ -84,12 +84,12 @@ module _ (want : TruthTable) (few : want.inputs ≤ 6) (words left : List ℕ) (
   pub tried_more : Tried want words pins (rank f) → NoFeeds want (take (length words / 2) left) (pins - 1) → Tried want words pins (rank f + 1)
   tried_more t nothing = record {
     none = λ g gs h a m.
-      ⊎_elim (λ less. t.none g gs less a m)
-      (λ most.
+        ⊎_elim (λ less. t.none g gs less a m)
+        (λ most.
         let e : g ≡ f = same_feed g f (omega arith) in
         let a' = subst (λ g. AreFeeds want pins (g ∷ gs)) e a in
         nothing gs (rest_are want pins f gs a') (rest_meet gs a' (subst (λ g. Meets want words (g ∷ gs)) e m)))
-      (cases_lt (rank g) (rank f));
+        (cases_lt (rank g) (rank f));
   }
 
   module _ (most : pins ≤ 6) (among : is_among want.inputs f ≡ true) (t : Tried want words pins (rank f)) (rest places : List Feed) (r : FirstFeeds want (take (length words / 2) left) (pins - 1) rest) (e : places ≡ f ∷ take 5 rest) where
@@ -103,20 +103,20 @@ module _ (want : TruthTable) (few : want.inputs ≤ 6) (words left : List ℕ) (
     shape =
         ap (λ xs. f ∷ xs)
         (ap (take 5) (r.shape ∙ ap (λ n. r.feeds ++ replicate n Zero) zeros)
-         ∙ take_front r.feeds (6 - pins) 5 (let n = r.are.0 in omega arith))
+        ∙ take_front r.feeds (6 - pins) 5 (let n = r.are.0 in omega arith))
 
     first : (others : List Feed) → AreFeeds want pins others → Meets want words others → IsNoLaterFeed (f ∷ r.feeds) others
     first [] a m = absurd (let n = a.0 in omega arith)
     first (g ∷ gs) a m =
         ⊎_elim (λ less. absurd (t.none g gs less a m))
         (λ most. ⊎_elim (λ more. head_less (rank f) (rank g) (map rank r.feeds) (map rank gs) more)
-          (λ least.
-            let same : g ≡ f = same_feed g f (omega arith) in
-            let a' = subst (λ g. AreFeeds want pins (g ∷ gs)) same a in
-            let m' = subst (λ g. Meets want words (g ∷ gs)) same m in
-            subst (λ g. IsNoLaterFeed (f ∷ r.feeds) (g ∷ gs)) (sym same)
-            (head_same (rank f) (map rank r.feeds) (map rank gs) (r.first gs (rest_are want pins f gs a') (rest_meet gs a' m'))))
-          (cases_lt (rank f) (rank g)))
+        (λ least.
+        let same : g ≡ f = same_feed g f (omega arith) in
+        let a' = subst (λ g. AreFeeds want pins (g ∷ gs)) same a in
+        let m' = subst (λ g. Meets want words (g ∷ gs)) same m in
+        subst (λ g. IsNoLaterFeed (f ∷ r.feeds) (g ∷ gs)) (sym same)
+        (head_same (rank f) (map rank r.feeds) (map rank gs) (r.first gs (rest_are want pins f gs a') (rest_meet gs a' m'))))
+        (cases_lt (rank f) (rank g)))
         (cases_lt (rank g) (rank f))
 
     -- the first feed after which something is found begins the first feeds

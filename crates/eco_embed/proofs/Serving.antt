@@ -1,5 +1,5 @@
 -- A table's words and the table itself.
-use Rattle.std.proofs.Common.{◌≡◌, ℕ, zero, suc, ◌+◌, ◌*◌, ◌^◌, ◌<◌, ◌≤◌, Bool, true, false, cond, ◌&&◌, nat_lt, List, [], ◌∷◌, length, map, take, get_or, slice_index, refl, ap, ◌∙◌, sym, subst, arith}
+use Rattle.std.proofs.Common.{◌≡◌, ℕ, zero, suc, ◌+◌, ◌*◌, ◌^◌, ◌<◌, ◌≤◌, Bool, true, false, cond, ◌&&◌, nat_lt, List, [], ◌∷◌, length, map, take, get_or, slice_index, refl, ap, ◌∙◌, sym, subst, arith, Option, Some, None, MatchOption}
 use Rattle.std.proofs.lemmas.Bool.{and_parts}
 use Rattle.std.proofs.lemmas.Bool.Decides.{nat_tests}
 use Rattle.std.proofs.lemmas.List.{get_or-take}
@@ -8,8 +8,8 @@ use Rattle.eco_func.specs.Tables.{TruthTable, at}
 use Rattle.eco_embed.specs.declared.feed.Feed.{Feed}
 use Rattle.eco_embed.specs.declared.feed.Feed.TheVariants.{Zero, One, Input}
 use Rattle.eco_embed.specs.Feeds.{bit, feed_bit, fed_row, is_among}
-use Rattle.eco_embed.specs.Embeddings.{Serves}
-use Rattle.eco_embed.specs.Words.{value, Meets}
+use Rattle.eco_embed.specs.Embeddings.{Serves, ServesNone, FirstServing}
+use Rattle.eco_embed.specs.Words.{value, Meets, NoFeeds, FirstFeeds}
 use Rattle.eco_embed.proofs.RowBits.{few_rows}
 use Rattle.eco_embed.proofs.Folding.{fed_row_below}
 
@@ -30,6 +30,31 @@ module _ (want table : TruthTable) (few : want.inputs ≤ 6) (words : List ℕ) 
 
   pub meets : Serves want table feeds → Meets want (take (2 ^ table.inputs) words) feeds
   meets s r h = table_value r h ∙ s.computes r h
+
+module _ (want table : TruthTable) (few : want.inputs ≤ 6) (words : List ℕ) (are : AreWords table words) where
+  none_serves : NoFeeds want (take (2 ^ table.inputs) words) table.inputs → ServesNone want table
+  none_serves none feeds count s = none feeds (count, s.among) (meets want table few words are feeds count s)
+
+  first_serves : (places : List Feed) → FirstFeeds want (take (2 ^ table.inputs) words) table.inputs places → FirstServing want table places
+  first_serves places r = record {
+    feeds = r.feeds;
+    count = r.are.0;
+    serves = serves want table few words are r.feeds r.are.0 r.are.1 r.meets;
+    shape = r.shape;
+    first = λ others count s. r.first others (count, s.among) (meets want table few words are others count s);
+  }
+
+  either : (o : Option (List Feed)) → MatchOption o (NoFeeds want (take (2 ^ table.inputs) words) table.inputs) (FirstFeeds want (take (2 ^ table.inputs) words) table.inputs) → MatchOption o (ServesNone want table) (FirstServing want table)
+  either None h = none_serves h
+  either (Some places) h = first_serves places h
+
+  -- what the search says of the words, said of the table
+  pub of_table : (n pins : ℕ) → n ≡ 2 ^ table.inputs → pins ≡ table.inputs → (o : Option (List Feed))
+    → MatchOption o (NoFeeds want (take n words) pins) (FirstFeeds want (take n words) pins) → MatchOption o (ServesNone want table) (FirstServing want table)
+  of_table n pins e f o h =
+      either o
+      (subst (λ p. MatchOption o (NoFeeds want (take (2 ^ table.inputs) words) p) (FirstFeeds want (take (2 ^ table.inputs) words) p)) f
+       (subst (λ n. MatchOption o (NoFeeds want (take n words) pins) (FirstFeeds want (take n words) pins)) e h))
 
 -- one of fewer inputs is one of six
 among_more : (k : ℕ) → k ≤ 6 → (f : Feed) → is_among k f ≡ true → is_among 6 f ≡ true

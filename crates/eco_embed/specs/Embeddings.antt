@@ -1,5 +1,5 @@
 -- Constant insertion.
-use Rattle.std.specs.Prelude.{◌≡◌, ◌≢◌, ℕ, ◌^◌, ◌<◌, ◌≤◌, true, List, [], ◌∷◌, map, length, take, drop, slice_get, Some}
+use Rattle.std.specs.Prelude.{◌≡◌, ◌≢◌, ℕ, ◌^◌, ◌<◌, ◌≤◌, true, List, [], ◌∷◌, map, length, take, drop, ◌++◌, ◌-◌, replicate, slice_get, Some}
 use Rattle.std.specs.List.{list_all}
 use Rattle.std.specs.Ordering.{nat_cmp}
 use Rattle.std.specs.declared.cmp.Ordering.TheVariants.{Greater}
@@ -8,8 +8,9 @@ use Rattle.eco_func.specs.declared.output.OutputFn.{OutputFn}
 use Rattle.eco_func.specs.Tables.{TruthTable, at}
 use Rattle.eco_func.specs.Masters.{MasterTables}
 use Rattle.eco_embed.specs.declared.feed.Feed.{Feed}
+use Rattle.eco_embed.specs.declared.feed.Feed.TheVariants.{Zero}
 use Rattle.eco_embed.specs.declared.embedding.Embedding.{Embedding}
-use Rattle.eco_embed.specs.Feeds.{fed_row, is_among, is_zero, rank}
+use Rattle.eco_embed.specs.Feeds.{fed_row, is_among, is_zero, rank, IsNoLaterFeed}
 
 -- The feeds of the master's inputs, and what stands past them.
 abbrev pub feeds_of : MasterTables → Embedding → List Feed
@@ -20,6 +21,18 @@ feeds_of master e = take (length master.inputs) e.pins
 pub record Serves (want table : TruthTable) (feeds : List Feed) : Type 0 where
   pub among : list_all (is_among want.inputs) feeds ≡ true
   pub computes : (r : ℕ) → r < 2 ^ want.inputs → at table (fed_row feeds r) ≡ at want r
+
+-- No feeds make the wanted table of a table.
+abbrev pub ServesNone : TruthTable → TruthTable → Type 0
+ServesNone want table = (feeds : List Feed) → length feeds ≡ table.inputs → ¬ Serves want table feeds
+
+-- Of six places the first have the first feeds that make the wanted table of a table, and the others Zero.
+pub record FirstServing (want table : TruthTable) (places : List Feed) : Type 0 where
+  pub feeds : List Feed
+  pub count : length feeds ≡ table.inputs
+  pub serves : Serves want table feeds
+  pub shape : places ≡ feeds ++ replicate (6 - table.inputs) Zero
+  pub first : (others : List Feed) → length others ≡ table.inputs → Serves want table others → IsNoLaterFeed feeds others
 
 -- An embedding chooses an output of the master, and its feeds of the master's inputs make the wanted table of that
 -- output's. Of the six places those past the inputs are Zero.

@@ -1,5 +1,8 @@
 -- What feeds make of a row.
-use Rattle.std.specs.Prelude.{ℕ, ◌/◌, ◌%◌, ◌^◌, ◌+◌, ◌==◌, nat_lt, Bool, true, false, List, map}
+use Rattle.std.specs.Ordering.{nat_cmp}
+use Rattle.std.specs.declared.cmp.Ordering.TheVariants.{Greater}
+use Rattle.std.specs.Cmp.Lexicographic.{slice_cmp}
+use Rattle.std.specs.Prelude.{◌≢◌, ℕ, ◌/◌, ◌%◌, ◌^◌, ◌+◌, ◌==◌, nat_lt, Bool, true, false, List, map}
 use Rattle.eco_embed.specs.declared.feed.Feed.{Feed}
 use Rattle.eco_embed.specs.declared.feed.Feed.TheVariants.{Zero, One, Input}
 use Rattle.eco_func.specs.Tables.{row}
@@ -33,3 +36,7 @@ abbrev pub rank : Feed → ℕ
 rank Zero = 0
 rank One = 1
 rank (Input i) = i + 2
+
+-- Lists of feeds in order, pin by pin from the first.
+abbrev pub IsNoLaterFeed : List Feed → List Feed → Type 0
+IsNoLaterFeed feeds others = slice_cmp nat_cmp (map rank feeds) (map rank others) ≢ Greater

@@ -1,12 +1,9 @@
 -- A function of several pins as a list of words: the word at a row of the pins has a bit for each row of the gate.
-use Rattle.std.specs.Prelude.{◌≡◌, ◌≢◌, ℕ, ◌+◌, ◌-◌, ◌*◌, ◌^◌, ◌<◌, Bool, true, List, ◌++◌, map, length, replicate, slice_index, if◌then◌else◌}
+use Rattle.std.specs.Prelude.{◌≡◌, ℕ, ◌+◌, ◌-◌, ◌*◌, ◌^◌, ◌<◌, Bool, true, List, ◌++◌, length, replicate, slice_index, if◌then◌else◌}
 use Rattle.std.specs.List.{list_all}
-use Rattle.std.specs.Ordering.{nat_cmp}
-use Rattle.std.specs.declared.cmp.Ordering.TheVariants.{Greater}
-use Rattle.std.specs.Cmp.Lexicographic.{slice_cmp}
 use Rattle.eco_embed.specs.declared.feed.Feed.TheVariants.{Zero}
 use Rattle.eco_embed.specs.declared.feed.Feed.{Feed}
-use Rattle.eco_embed.specs.Feeds.{bit, feed_bit, fed_row, is_among, rank}
+use Rattle.eco_embed.specs.Feeds.{bit, feed_bit, fed_row, is_among, IsNoLaterFeed}
 use Rattle.eco_func.specs.Tables.{TruthTable, at}
 
 -- The value at a row of the gate with these feeds on the pins.
@@ -30,10 +27,6 @@ AreFeeds want pins feeds = (length feeds ≡ pins) × (list_all (is_among want.i
 -- No feeds of so many pins give the wanted table.
 abbrev pub NoFeeds : TruthTable → List ℕ → ℕ → Type 0
 NoFeeds want words pins = (feeds : List Feed) → AreFeeds want pins feeds → ¬ Meets want words feeds
-
--- Feeds in order, pin by pin from the first.
-abbrev pub IsNoLaterFeed : List Feed → List Feed → Type 0
-IsNoLaterFeed feeds others = slice_cmp nat_cmp (map rank feeds) (map rank others) ≢ Greater
 
 -- Of six places the first have the first feeds that give the wanted table, and the others Zero.
 pub record FirstFeeds (want : TruthTable) (words : List ℕ) (pins : ℕ) (places : List Feed) : Type 0 where

@@ -5,9 +5,11 @@
 mod embedding;
 mod feed;
 mod fit;
+mod insertion;
 mod search;
 mod words;
 
 pub use crate::embedding::Embedding;
 pub use crate::feed::Feed;
 pub use crate::fit::fits;
+pub use crate::insertion::embed;

@@ -28,9 +28,11 @@ fn before(feed: Feed, rest: [Feed; 6]) -> [Feed; 6]
     [feed, second, third, fourth, fifth, sixth]
 }
 
-/// The first feeds of so many pins that give the wanted table, and Zero after them.
-pub fn first_feeds(want: &Table, words: &[u64], pins: usize) -> Option<[Feed; 6]>
+/// The first feeds of so many pins that give the wanted table, and Zero after them. `feeds` is the number of feeds that a
+/// pin may have.
+pub fn first_feeds(want: &Table, feeds: u8, words: &[u64], pins: usize) -> Option<[Feed; 6]>
     requires rows { want.now.inputs ≤ 6 }
+    requires feeds { feeds ≡ want.now.inputs + 2 }
     requires few { pins ≤ 6 }
     requires words { length words.now ≡ 2 ^ pins }
     ensures { MatchOption result (NoFeeds want.now words.now pins) (FirstFeeds want.now words.now pins) }
@@ -38,10 +40,10 @@ pub fn first_feeds(want: &Table, words: &[u64], pins: usize) -> Option<[Feed; 6]
     if pins == 0 {
         return if agrees(want, words[0]) { Some([Feed::Zero; 6]) } else { None };
     }
-    for number in 0..want.inputs() + 2 {
+    for number in 0..feeds {
         let feed = numbered(number);
         let left = fed(words, feed);
-        if let Some(rest) = first_feeds(want, &left[..words.len() / 2], pins - 1) {
+        if let Some(rest) = first_feeds(want, feeds, &left[..words.len() / 2], pins - 1) {
             return Some(before(feed, rest));
         }
     }

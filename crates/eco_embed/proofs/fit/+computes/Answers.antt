@@ -21,17 +21,23 @@ computes-requires t c =
     let feeds = c.args.feeds.now in
     let one_less = c.in-Some.ensures.cases.1 in
     let is = c.in-Some.ensures.cases.0 in
-    let long = longer c.args.want.now c.requires.rows words c.fed.result feeds c.in-Some.first.now c.in-Some.rest.now is c.requires.words c.fed.ensures.words in
-    (omega (arith, one_less, c.decreases),
-     (c.requires.rows,
-      (length-take-le _ _ (omega (arith, few_rows (length feeds) c.requires.few, c.requires.words, c.fed.ensures.places)) ∙ half words (length c.in-Some.rest.now) long,
-       (omega (arith, one_less, c.requires.few), (first_among c.in-Some.first.now c.in-Some.rest.now feeds is c.requires.among).1))))
+    let long = longer c.args.want.now c.requires.rows words c.fed.result feeds c.in-Some.first.now c.in-Some.rest.now is c.requires.words c.fed.ensures.words in (
+      omega (arith, one_less, c.decreases),
+      (
+        c.requires.rows,
+        (
+          length-take-le _ _ (omega (arith, few_rows (length feeds) c.requires.few, c.requires.words, c.fed.ensures.places)) ∙ half words (length c.in-Some.rest.now) long,
+          (omega (arith, one_less, c.requires.few), (first_among c.in-Some.first.now c.in-Some.rest.now feeds is c.requires.among).1),
+        ),
+      ),
+    )
 
 pub returns-in-Some : goal.returns-in-Some
 returns-in-Some t c =
     let want = c.args.want.now in
     let words = c.args.words.now in
     let feeds = c.args.feeds.now in
-    let is = c.in-Some.ensures.cases.0 in
-    (λ h. all_meet want c.requires.rows words c.fed.result feeds c.in-Some.first.now c.in-Some.rest.now is c.requires.words c.fed.ensures.words (c.computes.ensures.0 h),
-     λ m. c.computes.ensures.1 (meet_all want c.requires.rows words c.fed.result feeds c.in-Some.first.now c.in-Some.rest.now is c.requires.words c.fed.ensures.words m))
+    let is = c.in-Some.ensures.cases.0 in (
+      λ h. all_meet want c.requires.rows words c.fed.result feeds c.in-Some.first.now c.in-Some.rest.now is c.requires.words c.fed.ensures.words (c.computes.ensures.0 h),
+      λ m. c.computes.ensures.1 (meet_all want c.requires.rows words c.fed.result feeds c.in-Some.first.now c.in-Some.rest.now is c.requires.words c.fed.ensures.words m),
+    )

@@ -38,7 +38,8 @@ returns-then-are_among c =
     let i = c.inputs-then-are_among.result in
     let few : want.inputs ≤ 6 = omega (arith, c.inputs.ensures.few, c.inputs.ensures.value) in
     let front : 1 * 2 ^ i % 18446744073709551616 ≡ 2 ^ table.inputs =
-      one_shl i 64 (omega (arith, c.inputs-then-are_among.ensures.few)) ∙ ap (λ n. 2 ^ n) c.inputs-then-are_among.ensures.value in
-    let among = ap (λ k. list_all (is_among k) feeds) (sym c.inputs.ensures.value) ∙ sym c.are_among.ensures ∙ c.if-are_among.true in
-    (λ h. serves want table few words c.words_of.ensures.words feeds c.requires among (subst (λ n. Meets want (take n words) feeds) front (c.computes.ensures.0 h)),
-     λ s. c.computes.ensures.1 (subst (λ n. Meets want (take n words) feeds) (sym front) (meets want table few words c.words_of.ensures.words feeds c.requires s)))
+    one_shl i 64 (omega (arith, c.inputs-then-are_among.ensures.few)) ∙ ap (λ n. 2 ^ n) c.inputs-then-are_among.ensures.value in
+    let among = ap (λ k. list_all (is_among k) feeds) (sym c.inputs.ensures.value) ∙ sym c.are_among.ensures ∙ c.if-are_among.true in (
+      λ h. serves want table few words c.words_of.ensures.words feeds c.requires among (subst (λ n. Meets want (take n words) feeds) front (c.computes.ensures.0 h)),
+      λ s. c.computes.ensures.1 (subst (λ n. Meets want (take n words) feeds) (sym front) (meets want table few words c.words_of.ensures.words feeds c.requires s)),
+    )
