@@ -4,3 +4,4 @@ pub mod Folding
 pub mod Serving
 pub mod Searching
 pub mod Outputs
+pub mod Reaching

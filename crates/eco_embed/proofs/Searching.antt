@@ -1,5 +1,5 @@
 -- Feeds tried in their order.
-use Rattle.std.proofs.Common.{◌≡◌, ◌≢◌, ℕ, zero, suc, ◌+◌, ◌-◌, ◌*◌, ◌/◌, ◌^◌, ◌<◌, ◌≤◌, Bool, true, false, ◌&&◌, nat_lt, List, [], ◌∷◌, ◌++◌, length, map, take, get_or, replicate, refl, ap, ◌∙◌, sym, subst, arith, ⊎_elim, Ordering, Less, Equal, Greater, nat_cmp}
+use Rattle.std.proofs.Common.{◌≡◌, ◌≢◌, ℕ, zero, suc, ◌+◌, ◌-◌, ◌*◌, ◌/◌, ◌^◌, ◌<◌, ◌≤◌, Bool, true, false, not, ◌&&◌, nat_lt, List, [], ◌∷◌, ◌++◌, length, map, take, get_or, replicate, refl, ap, ◌∙◌, sym, subst, arith, ⊎_elim, Ordering, Less, Equal, Greater, nat_cmp}
 use Rattle.std.proofs.lemmas.Bool.{and_parts, cases_lt}
 use Rattle.std.proofs.lemmas.Bool.Decides.{nat_tests}
 use Rattle.std.specs.List.{list_all}
@@ -8,9 +8,9 @@ use Rattle.std.specs.Cmp.Lexicographic.{slice_cmp}
 use Rattle.eco_func.specs.Tables.{TruthTable, at}
 use Rattle.eco_embed.specs.declared.feed.Feed.{Feed}
 use Rattle.eco_embed.specs.declared.feed.Feed.TheVariants.{Zero, One, Input}
-use Rattle.eco_embed.specs.Feeds.{is_among, rank, IsNoLaterFeed}
-use Rattle.eco_embed.specs.Words.{Meets, IsFed, AreFeeds, NoFeeds, FirstFeeds}
-use Rattle.eco_embed.proofs.Folding.{rest_meets, meets_rest}
+use Rattle.eco_embed.specs.Feeds.{fed_row, is_among, rank, IsNoLaterFeed}
+use Rattle.eco_embed.specs.Words.{Meets, IsFed, AreFeeds, NoFeeds, FirstFeeds, Reaches}
+use Rattle.eco_embed.proofs.Folding.{fed_row_below, rest_meets, meets_rest}
 
 -- no feeds that begin with a feed of a lower number give the wanted table
 pub record Tried (want : TruthTable) (words : List ℕ) (pins number : ℕ) : Type 0 where
@@ -133,3 +133,12 @@ module _ (want : TruthTable) (few : want.inputs ≤ 6) (words left : List ℕ) (
 pub none_left : (want : TruthTable) (words : List ℕ) (pins : ℕ) → 0 < pins → Tried want words pins (want.inputs + 2) → NoFeeds want words pins
 none_left want words pins some t [] a m = absurd (let n = a.0 in omega arith)
 none_left want words pins some t (f ∷ fs) a m = t.none f fs (rank_below want.inputs f (first_is want pins f fs a)) a m
+
+-- where a row is reached by no word nothing is found
+pub unreached : (want : TruthTable) (words : List ℕ) (pins : ℕ) → length words ≡ 2 ^ pins → (b : Bool) → b ≡ false → (Reaches want words → b ≡ true) → NoFeeds want words pins
+unreached want words pins long true e h feeds a m = absurd (cc)
+unreached want words pins long false e h feeds a m =
+    absurd (different (h (λ r lt. (fed_row feeds r, subst (λ n. fed_row feeds r < n) (ap (λ n. 2 ^ n) a.0 ∙ sym long) (fed_row_below feeds r), m r lt))))
+  where
+  different : false ≡ true → ⊥
+  different e = cc

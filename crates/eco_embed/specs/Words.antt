@@ -35,3 +35,7 @@ pub record FirstFeeds (want : TruthTable) (words : List ℕ) (pins : ℕ) (place
   pub meets : Meets want words feeds
   pub shape : places ≡ feeds ++ replicate (6 - pins) Zero
   pub first : (others : List Feed) → AreFeeds want pins others → Meets want words others → IsNoLaterFeed feeds others
+
+-- At each row of the gate some word has the wanted value.
+abbrev pub Reaches : TruthTable → List ℕ → Type 0
+Reaches want words = (r : ℕ) → r < 2 ^ want.inputs → (s : ℕ) × (s < length words) × (bit (slice_index words s) r ≡ at want r)

@@ -6,6 +6,7 @@ mod embedding;
 mod feed;
 mod fit;
 mod insertion;
+mod reach;
 mod search;
 mod words;
 
@@ -13,3 +14,6 @@ pub use crate::embedding::Embedding;
 pub use crate::feed::Feed;
 pub use crate::fit::fits;
 pub use crate::insertion::embed;
+
+#[cfg(test)]
+mod tests;

@@ -5,6 +5,7 @@ ghost use Rattle.eco_embed.specs.Feeds.{is_among, rank};
 ghost use Rattle.eco_embed.specs.Words.{NoFeeds, FirstFeeds};
 
 use crate::feed::Feed;
+use crate::reach::reaches;
 use crate::words::{agrees, fed};
 use eco_func::Table;
 
@@ -39,6 +40,9 @@ pub fn first_feeds(want: &Table, feeds: u8, words: &[u64], pins: usize) -> Optio
 {
     if pins == 0 {
         return if agrees(want, words[0]) { Some([Feed::Zero; 6]) } else { None };
+    }
+    if !reaches(want, words) {
+        return None;
     }
     for number in 0..feeds {
         let feed = numbered(number);

@@ -1,6 +1,6 @@
 //! Functions of several pins, 64 rows of a gate at a time.
 
-ghost use Rattle.std.specs.Prelude.{◌≡◌, ◌<◌, ◌≤◌, ◌+◌, ◌*◌, ◌^◌, ◌↔◌, ℕ, IsTrue, length, slice_index, if◌then◌else◌};
+ghost use Rattle.std.specs.Prelude.{◌≡◌, ◌<◌, ◌≤◌, ◌+◌, ◌-◌, ◌*◌, ◌^◌, ◌↔◌, ℕ, IsTrue, length, slice_index, if◌then◌else◌};
 ghost use Rattle.eco_func.specs.Tables.{at};
 ghost use Rattle.eco_embed.specs.Feeds.{bit, feed_bit, is_among};
 ghost use Rattle.eco_embed.specs.Words.{IsFed};
@@ -36,7 +36,7 @@ fn input_column(input: u8) -> u64
 }
 
 /// At each row the bit of `one` where `column` has 1, and else that of `zero`.
-fn chosen(column: u64, zero: u64, one: u64) -> u64
+pub fn chosen(column: u64, zero: u64, one: u64) -> u64
     ensures { (r : ℕ) → bit result r ≡ (if bit column r then bit one r else bit zero r) }
 {
     zero ^ (column & (zero ^ one))
@@ -69,8 +69,15 @@ fn halved(words: &[u64], column: u64) -> [u64; 32]
 pub fn agrees(want: &Table, word: u64) -> bool
     ensures { IsTrue result ↔ ((r : ℕ) → r < 2 ^ want.now.inputs → bit word r ≡ at want.now r) }
 {
-    let rows = 1u32 << want.inputs();
-    word & (u64::MAX >> (64 - rows)) == want.bits()
+    word & low_rows(want.inputs()) == want.bits()
+}
+
+/// The word with 1 at each row of so many inputs.
+pub fn low_rows(inputs: u8) -> u64
+    requires { inputs ≤ 6 }
+    ensures { result ≡ 2 ^ (2 ^ inputs) - 1 }
+{
+    u64::MAX >> (64 - (1u32 << inputs))
 }
 
 /// The word with one value at all rows.

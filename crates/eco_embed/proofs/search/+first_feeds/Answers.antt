@@ -3,7 +3,7 @@ use Rattle.std.proofs.lemmas.List.{length-take-le}
 use Rattle.eco_embed.specs.Feeds.{rank}
 use Rattle.eco_embed.proofs.RowBits.{few_rows}
 use Rattle.eco_embed.proofs.Folding.{half}
-use Rattle.eco_embed.proofs.Searching.{Tried, tried_more, found, none_left}
+use Rattle.eco_embed.proofs.Searching.{Tried, tried_more, found, none_left, unreached}
 use Rattle.eco_embed.proofs.search.+first_feeds.Goals as goal
 
 pub fed-left-requires-clause-few : goal.fed-left-requires-clause-few
@@ -54,3 +54,6 @@ returns t c =
     let pins = c.args.pins in
     let end : c.loop-number.number ≡ want.inputs + 2 = omega (arith, c.loop-number-test.false, c.requires.feeds, c.loop-number.auto.number-end) in
     none_left want words pins (omega arith) (subst (Tried want words pins) end c.loop-number.invariant)
+
+pub returns-then-not-reaches : goal.returns-then-not-reaches
+returns-then-not-reaches t c = unreached c.args.want.now c.args.words.now c.args.pins c.requires.words c.reaches.result c.if-not-reaches.true c.reaches.ensures
