@@ -4,3 +4,4 @@ pub mod PinNames
 pub mod DocumentLemmas
 pub mod Finding
 pub mod ByName
+pub mod RowLaws

@@ -3,7 +3,7 @@
 --   [NAND2]
 --   inputs = ["A", "B"]
 --   outputs = { Y = "1110" }
-use Rattle.std.specs.Prelude.{◌≡◌, ℕ, ◌+◌, ◌^◌, Bool, false, ◌&&◌, ◌||◌, ◌==◌, nat_le, if◌then◌else◌, List, [], ◌∷◌, map, length, codes, Option, Some, None, option_map, option_and_then}
+use Rattle.std.specs.Prelude.{◌≡◌, ℕ, ◌+◌, ◌^◌, ◌<◌, slice_index, Bool, false, ◌&&◌, ◌||◌, ◌==◌, nat_le, if◌then◌else◌, List, [], ◌∷◌, map, length, codes, Option, Some, None, option_map, option_and_then}
 use Rattle.std.specs.List.{list_all, find}
 use Rattle.std.specs.Option.{option_map_or}
 use Rattle.std.specs.List.Sorted.{IsStrictlySortedBy}
@@ -13,7 +13,7 @@ use Rattle.std.specs.Str.{IsUtf8, bytes_eq}
 use Rattle.toml.specs.Data.{Data, Items, no_items, item, Members, no_members, member, get, as_str, as_array, as_table}
 use Rattle.toml.specs.Parse.{parse_document}
 use Rattle.eco_func.specs.declared.output.OutputFn.{OutputFn}
-use Rattle.eco_func.specs.Tables.{TruthTable, row}
+use Rattle.eco_func.specs.Tables.{TruthTable, row, at}
 use Rattle.eco_func.specs.Masters.{MasterTables, master}
 
 infixl 10 ◌>>=◌
@@ -35,6 +35,12 @@ table_of m text =
     if length text == 2 ^ m && list_all is_bit text
     then Some (record { inputs = m; bits = row (map is_one text) })
     else None
+
+-- The character at each place of a table's text is the value at that row.
+abbrev pub CharactersAreRows : Type 0
+CharactersAreRows =
+    (m : ℕ) (text : List ℕ) (t : TruthTable) → table_of m text ≡ Some t
+    → (t.inputs ≡ m) × (length text ≡ 2 ^ m) × ((r : ℕ) → r < 2 ^ m → slice_index text r ≡ (if at t r then 49 else 48))
 
 -- ---- a master's fields
 

@@ -1,5 +1,5 @@
 -- Truth tables, and the rows of lists of bits.
-use Rattle.std.specs.Prelude.{ℕ, ◌+◌, ◌*◌, ◌/◌, ◌%◌, ◌^◌, ◌<◌, ◌≤◌, Bool, ◌==◌, cond, List, [], ◌∷◌}
+use Rattle.std.specs.Prelude.{◌≡◌, ℕ, ◌+◌, ◌*◌, ◌/◌, ◌%◌, ◌^◌, ◌<◌, ◌≤◌, Bool, ◌==◌, cond, List, [], ◌∷◌, slice_index_or, false}
 
 -- Bit r is the value at row r.
 pub record TruthTable : Type 0 where
@@ -23,3 +23,7 @@ row (b ∷ bs) = cond b 1 0 + 2 * row bs
 -- The value at the row of these bits.
 abbrev pub look : TruthTable → List Bool → Bool
 look t bits = at t (row bits)
+
+-- Bit i of the row of a list of bits is bit i of the list.
+abbrev pub RowsAreBits : Type 0
+RowsAreBits = (bits : List Bool) (i : ℕ) → (row bits / 2 ^ i % 2 == 1) ≡ slice_index_or bits i false
