@@ -1,9 +1,9 @@
 -- A function of several pins with its first pin fed.
-use Rattle.std.proofs.Common.{◌≡◌, ℕ, zero, suc, ◌+◌, ◌*◌, ◌/◌, ◌^◌, ◌<◌, ◌≤◌, Bool, true, false, cond, List, [], ◌∷◌, length, map, take, get_or, slice_index, refl, ap, ◌∙◌, sym, subst, arith, ◌↔◌, if◌then◌else◌}
+use Rattle.std.proofs.Common.{◌≡◌, ℕ, suc, ◌+◌, ◌*◌, ◌/◌, ◌^◌, ◌<◌, ◌≤◌, Bool, true, false, cond, List, [], ◌∷◌, length, take, get_or, ap, ◌∙◌, sym, subst, arith}
 use Rattle.std.proofs.Math.Nat.{pow-suc}
 use Rattle.std.proofs.lemmas.List.{get_or-take}
 use Rattle.std.proofs.lemmas.Nat.{pow_pos}
-use Rattle.eco_func.specs.Tables.{TruthTable, row, at}
+use Rattle.eco_func.specs.Tables.{TruthTable}
 use Rattle.eco_embed.specs.declared.feed.Feed.{Feed}
 use Rattle.eco_embed.specs.Feeds.{bit, feed_bit, fed_row}
 use Rattle.eco_embed.specs.Words.{value, Meets, IsFed}

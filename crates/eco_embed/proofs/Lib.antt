@@ -5,3 +5,4 @@ pub mod Serving
 pub mod Searching
 pub mod Outputs
 pub mod Reaching
+pub mod ListLaws

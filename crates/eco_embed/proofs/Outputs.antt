@@ -1,5 +1,5 @@
 -- A master's outputs, one after another.
-use Rattle.std.proofs.Common.{◌≡◌, ◌≢◌, ℕ, zero, suc, ◌+◌, ◌-◌, ◌<◌, ◌≤◌, Bool, true, false, ◌&&◌, ◌==◌, IsTrue, nat_le, List, [], ◌∷◌, ◌++◌, length, length-append, length-drop, map, take, drop, get_or, replicate, refl, ap, ◌∙◌, sym, subst, arith, ⊎_elim, Option, Some, None, slice_get, Ordering, Less, Equal, Greater, nat_cmp}
+use Rattle.std.proofs.Common.{◌≡◌, ◌≢◌, ℕ, zero, suc, ◌+◌, ◌-◌, ◌<◌, ◌≤◌, true, ◌&&◌, ◌==◌, IsTrue, nat_le, List, [], ◌∷◌, ◌++◌, length, length-append, length-drop, map, take, drop, get_or, replicate, refl, ap, ◌∙◌, sym, subst, arith, ⊎_elim, Some, slice_get, Ordering, Less, Equal, Greater, nat_cmp}
 use Rattle.std.proofs.lemmas.Bool.{and_parts, cases_lt}
 use Rattle.std.proofs.Math.Seq.{take-append_seam, drop-append_seam}
 use Rattle.std.proofs.lemmas.List.{map-append, take-append-drop, length-take-le, length-replicate, length-map}
@@ -13,8 +13,8 @@ use Rattle.eco_func.specs.Masters.{MasterTables, is_master, all_differ, pins as 
 use Rattle.eco_embed.specs.declared.feed.Feed.{Feed}
 use Rattle.eco_embed.specs.declared.feed.Feed.TheVariants.{Zero, One, Input}
 use Rattle.eco_embed.specs.declared.embedding.Embedding.{Embedding}
-use Rattle.eco_embed.specs.Feeds.{is_zero, rank, IsNoLaterFeed}
-use Rattle.eco_embed.specs.Embeddings.{Embeds, Serves, IsFirst, IsNoLater, FirstServing, ServesNone, feeds_of, key}
+use Rattle.eco_embed.specs.Feeds.{is_zero, rank}
+use Rattle.eco_embed.specs.Embeddings.{Embeds, Serves, IsFirst, FirstServing, ServesNone, feeds_of}
 use Rattle.eco_embed.proofs.Searching.{head_less, head_same}
 
 -- no embedding takes an output before this one
@@ -64,8 +64,8 @@ module _ (want : TruthTable) (master : MasterTables) (output : ℕ) (chosen : Ou
       let same : m.chosen ≡ chosen = same_some m.chosen chosen (sym m.is_output ∙ ap (slice_get master.outputs) at ∙ is) in
       subst (λ o. Serves want o.table (feeds_of master e)) same m.serves
     where
-    same_some : (a b : OutputFn) → Some a ≡ Some b → a ≡ b
-    same_some a b h = cc
+      same_some : (a b : OutputFn) → Some a ≡ Some b → a ≡ b
+      same_some a b h = cc
 
   feeds_count : (e : Embedding) → Embeds want master e → length (feeds_of master e) ≡ chosen.table.inputs
   feeds_count e m = length-take-le (length master.inputs) e.pins (let n = m.places in omega arith) ∙ sym count
@@ -74,9 +74,9 @@ module _ (want : TruthTable) (master : MasterTables) (output : ℕ) (chosen : Ou
   pub none_more : NoneBefore want master output → ServesNone want chosen.table → NoneBefore want master (output + 1)
   none_more t none = record {
     none = λ e h m.
-      ⊎_elim (λ less. t.none e less m)
-      (λ most. let at : e.output ≡ output = omega arith in none (feeds_of master e) (feeds_count e m) (served e at m))
-      (cases_lt e.output output);
+        ⊎_elim (λ less. t.none e less m)
+        (λ most. let at : e.output ≡ output = omega arith in none (feeds_of master e) (feeds_count e m) (served e at m))
+        (cases_lt e.output output);
   }
 
   module _ (t : NoneBefore want master output) (pins : List Feed) (r : FirstServing want chosen.table pins) where
@@ -109,9 +109,9 @@ module _ (want : TruthTable) (master : MasterTables) (output : ℕ) (chosen : Ou
     in_order f at m =
         let later : slice_cmp nat_cmp (map rank r.feeds) (map rank (feeds_of master f)) ≢ Greater = r.first (feeds_of master f) (feeds_count f m) (served f at m) in
         let mine_ranks : map rank pins ≡ map rank r.feeds ++ replicate (6 - length master.inputs) 0 =
-          ranks (record { output = output; pins = pins }) embeds ∙ ap (λ fs. map rank fs ++ replicate (6 - length master.inputs) 0) front in
+        ranks (record { output = output; pins = pins }) embeds ∙ ap (λ fs. map rank fs ++ replicate (6 - length master.inputs) 0) front in
         let lengths : length (map rank r.feeds) ≡ length (map rank (feeds_of master f)) =
-          length-map r.feeds rank ∙ r.count ∙ sym (feeds_count f m) ∙ sym (length-map (feeds_of master f) rank) in
+        length-map r.feeds rank ∙ r.count ∙ sym (feeds_count f m) ∙ sym (length-map (feeds_of master f) rank) in
         let both = with_tails (map rank r.feeds) (map rank (feeds_of master f)) (replicate (6 - length master.inputs) 0) (replicate (6 - length master.inputs) 0) lengths refl later in
         subst (λ x. slice_cmp nat_cmp x (map rank f.pins) ≢ Greater) (sym mine_ranks) (subst (λ y. slice_cmp nat_cmp (map rank r.feeds ++ replicate (6 - length master.inputs) 0) y ≢ Greater) (sym (ranks f m)) both)
 
@@ -120,23 +120,23 @@ module _ (want : TruthTable) (master : MasterTables) (output : ℕ) (chosen : Ou
     is_first = record {
       embeds = embeds;
       first = λ f m.
-        ⊎_elim (λ less. absurd (t.none f less m))
-        (λ most. ⊎_elim (λ more. head_less output f.output (map rank pins) (map rank f.pins) more)
+          ⊎_elim (λ less. absurd (t.none f less m))
+          (λ most. ⊎_elim (λ more. head_less output f.output (map rank pins) (map rank f.pins) more)
           (λ least.
-            let at : f.output ≡ output = omega arith in
-            subst (λ o. slice_cmp nat_cmp (output ∷ map rank pins) (o ∷ map rank f.pins) ≢ Greater) (sym at) (head_same output (map rank pins) (map rank f.pins) (in_order f at m)))
+          let at : f.output ≡ output = omega arith in
+          subst (λ o. slice_cmp nat_cmp (output ∷ map rank pins) (o ∷ map rank f.pins) ≢ Greater) (sym at) (head_same output (map rank pins) (map rank f.pins) (in_order f at m)))
           (cases_lt output f.output))
-        (cases_lt f.output output);
+          (cases_lt f.output output);
     }
 
 -- no output is left
 pub none_at_all : (want : TruthTable) (master : MasterTables) → NoneBefore want master (length master.outputs) → (e : Embedding) → Embeds want master e → ⊥
 none_at_all want master t e m = t.none e (within master.outputs e.output m.chosen m.is_output) m
   where
-  within : (os : List OutputFn) (i : ℕ) (o : OutputFn) → slice_get os i ≡ Some o → i < length os
-  within [] i o h = absurd (cc)
-  within (x ∷ os) zero o h = omega arith
-  within (x ∷ os) (suc i) o h = let w = within os i o h in omega arith
+    within : (os : List OutputFn) (i : ℕ) (o : OutputFn) → slice_get os i ≡ Some o → i < length os
+    within [] i o h = absurd (cc)
+    within (x ∷ os) zero o h = omega arith
+    within (x ∷ os) (suc i) o h = let w = within os i o h in omega arith
 
 -- ---- what makes a master
 
@@ -152,8 +152,8 @@ over_at n (x ∷ os) h zero o lt e =
     let both = and_parts (x.table.inputs == n) (list_all (λ o. o.table.inputs == n) os) h in
     ap (λ o. o.table.inputs) e ∙ equal x.table.inputs n both.0
   where
-  equal : (a b : ℕ) → (a == b) ≡ true → a ≡ b
-  equal a b t = grind (arith, nat_tests)
+    equal : (a b : ℕ) → (a == b) ≡ true → a ≡ b
+    equal a b t = grind (arith, nat_tests)
 over_at n (x ∷ os) h (suc i) o lt e = over_at n os (and_parts (x.table.inputs == n) (list_all (λ o. o.table.inputs == n) os) h).1 i o (omega arith) e
 
 pub record Parts (inputs : List (List ℕ)) (outputs : List OutputFn) : Type 0 where
@@ -169,5 +169,5 @@ master_parts inputs outputs h =
     let e = and_parts (nat_le (length inputs) 6) (nat_le 1 (length outputs)) d.0 in
     record { few = at_most (length inputs) 6 e.0; most = at_most (length outputs) 8 d.1; over = over_at (length inputs) outputs b.1 }
   where
-  at_most : (a b : ℕ) → nat_le a b ≡ true → a ≤ b
-  at_most a b t = grind (arith, nat_tests)
+    at_most : (a b : ℕ) → nat_le a b ≡ true → a ≤ b
+    at_most a b t = grind (arith, nat_tests)

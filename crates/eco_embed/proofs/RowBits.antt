@@ -1,10 +1,9 @@
 -- Bits of words.
-use Rattle.std.proofs.Common.{◌≡◌, ℕ, zero, suc, ◌+◌, ◌-◌, ◌*◌, ◌/◌, ◌%◌, ◌^◌, ◌<◌, ◌≤◌, ◌==◌, min, Bool, true, false, cond, nat_eq, IsTrue, ◌↔◌, refl, ap, ◌∙◌, sym, subst, arith, bit_and, bit_xor}
+use Rattle.std.proofs.Common.{◌≡◌, ℕ, zero, suc, ◌+◌, ◌-◌, ◌*◌, ◌/◌, ◌%◌, ◌^◌, ◌<◌, ◌≤◌, ◌==◌, min, cond, ◌↔◌, refl, ap, ◌∙◌, sym, arith, bit_and, bit_xor}
 use Rattle.std.specs.Int.{bit_at}
 use Rattle.std.proofs.Math.Nat.{pow-le-pow_right}
-use Rattle.std.proofs.lemmas.Nat.{one_shl, pow_pos, and_mask, shr_split}
+use Rattle.std.proofs.lemmas.Nat.{one_shl, and_mask, shr_split}
 use Rattle.std.proofs.lemmas.Nat.Bits.{bit_at_and, bit_at_xor, bit_at-lt, bit_at_cat_low, same_from_bits_below, ones_shr}
-use Rattle.std.proofs.lemmas.Bool.Decides.{nat_tests}
 use Rattle.eco_embed.specs.Feeds.{bit}
 
 -- a bit is 0 or 1

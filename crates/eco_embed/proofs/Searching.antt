@@ -1,11 +1,11 @@
 -- Feeds tried in their order.
-use Rattle.std.proofs.Common.{◌≡◌, ◌≢◌, ℕ, zero, suc, ◌+◌, ◌-◌, ◌*◌, ◌/◌, ◌^◌, ◌<◌, ◌≤◌, Bool, true, false, not, ◌&&◌, nat_lt, List, [], ◌∷◌, ◌++◌, length, map, take, get_or, replicate, refl, ap, ◌∙◌, sym, subst, arith, ⊎_elim, Ordering, Less, Equal, Greater, nat_cmp}
+use Rattle.std.proofs.Common.{◌≡◌, ◌≢◌, ℕ, zero, suc, ◌+◌, ◌-◌, ◌/◌, ◌^◌, ◌<◌, ◌≤◌, Bool, true, false, List, [], ◌∷◌, ◌++◌, length, map, take, replicate, refl, ap, ◌∙◌, sym, subst, arith, ⊎_elim, Ordering, Less, Equal, Greater, nat_cmp}
 use Rattle.std.proofs.lemmas.Bool.{and_parts, cases_lt}
 use Rattle.std.proofs.lemmas.Bool.Decides.{nat_tests}
 use Rattle.std.specs.List.{list_all}
 use Rattle.std.specs.Ordering.{ordering_then}
 use Rattle.std.specs.Cmp.Lexicographic.{slice_cmp}
-use Rattle.eco_func.specs.Tables.{TruthTable, at}
+use Rattle.eco_func.specs.Tables.{TruthTable}
 use Rattle.eco_embed.specs.declared.feed.Feed.{Feed}
 use Rattle.eco_embed.specs.declared.feed.Feed.TheVariants.{Zero, One, Input}
 use Rattle.eco_embed.specs.Feeds.{fed_row, is_among, rank, IsNoLaterFeed}
@@ -140,5 +140,5 @@ unreached want words pins long true e h feeds a m = absurd (cc)
 unreached want words pins long false e h feeds a m =
     absurd (different (h (λ r lt. (fed_row feeds r, subst (λ n. fed_row feeds r < n) (ap (λ n. 2 ^ n) a.0 ∙ sym long) (fed_row_below feeds r), m r lt))))
   where
-  different : false ≡ true → ⊥
-  different e = cc
+    different : false ≡ true → ⊥
+    different e = cc

@@ -1,5 +1,5 @@
 -- A table's words and the table itself.
-use Rattle.std.proofs.Common.{◌≡◌, ℕ, zero, suc, ◌+◌, ◌*◌, ◌^◌, ◌<◌, ◌≤◌, Bool, true, false, cond, ◌&&◌, nat_lt, List, [], ◌∷◌, length, map, take, get_or, slice_index, refl, ap, ◌∙◌, sym, subst, arith, Option, Some, None, MatchOption}
+use Rattle.std.proofs.Common.{◌≡◌, ℕ, ◌^◌, ◌<◌, ◌≤◌, true, List, [], ◌∷◌, length, take, slice_index, refl, ap, ◌∙◌, sym, subst, arith, Option, Some, None, MatchOption}
 use Rattle.std.proofs.lemmas.Bool.{and_parts}
 use Rattle.std.proofs.lemmas.Bool.Decides.{nat_tests}
 use Rattle.std.proofs.lemmas.List.{get_or-take}
@@ -7,7 +7,7 @@ use Rattle.std.specs.List.{list_all}
 use Rattle.eco_func.specs.Tables.{TruthTable, at}
 use Rattle.eco_embed.specs.declared.feed.Feed.{Feed}
 use Rattle.eco_embed.specs.declared.feed.Feed.TheVariants.{Zero, One, Input}
-use Rattle.eco_embed.specs.Feeds.{bit, feed_bit, fed_row, is_among}
+use Rattle.eco_embed.specs.Feeds.{bit, fed_row, is_among}
 use Rattle.eco_embed.specs.Embeddings.{Serves, ServesNone, FirstServing}
 use Rattle.eco_embed.specs.Words.{value, Meets, NoFeeds, FirstFeeds}
 use Rattle.eco_embed.proofs.RowBits.{few_rows}
@@ -50,11 +50,11 @@ module _ (want table : TruthTable) (few : want.inputs ≤ 6) (words : List ℕ) 
 
   -- what the search says of the words, said of the table
   pub of_table : (n pins : ℕ) → n ≡ 2 ^ table.inputs → pins ≡ table.inputs → (o : Option (List Feed))
-    → MatchOption o (NoFeeds want (take n words) pins) (FirstFeeds want (take n words) pins) → MatchOption o (ServesNone want table) (FirstServing want table)
+      → MatchOption o (NoFeeds want (take n words) pins) (FirstFeeds want (take n words) pins) → MatchOption o (ServesNone want table) (FirstServing want table)
   of_table n pins e f o h =
       either o
       (subst (λ p. MatchOption o (NoFeeds want (take (2 ^ table.inputs) words) p) (FirstFeeds want (take (2 ^ table.inputs) words) p)) f
-       (subst (λ n. MatchOption o (NoFeeds want (take n words) pins) (FirstFeeds want (take n words) pins)) e h))
+      (subst (λ n. MatchOption o (NoFeeds want (take n words) pins) (FirstFeeds want (take n words) pins)) e h))
 
 -- one of fewer inputs is one of six
 among_more : (k : ℕ) → k ≤ 6 → (f : Feed) → is_among k f ≡ true → is_among 6 f ≡ true

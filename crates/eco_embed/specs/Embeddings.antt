@@ -1,16 +1,16 @@
 -- Constant insertion.
-use Rattle.std.specs.Prelude.{◌≡◌, ◌≢◌, ℕ, ◌^◌, ◌<◌, ◌≤◌, true, List, [], ◌∷◌, map, length, take, drop, ◌++◌, ◌-◌, replicate, slice_get, Some}
+use Rattle.std.specs.Prelude.{◌≡◌, ◌≢◌, ℕ, ◌^◌, ◌<◌, true, Bool, List, ◌∷◌, map, length, take, drop, ◌++◌, ◌-◌, replicate, slice_get, Some}
 use Rattle.std.specs.List.{list_all}
 use Rattle.std.specs.Ordering.{nat_cmp}
 use Rattle.std.specs.declared.cmp.Ordering.TheVariants.{Greater}
 use Rattle.std.specs.Cmp.Lexicographic.{slice_cmp}
 use Rattle.eco_func.specs.declared.output.OutputFn.{OutputFn}
-use Rattle.eco_func.specs.Tables.{TruthTable, at}
+use Rattle.eco_func.specs.Tables.{TruthTable, at, look}
 use Rattle.eco_func.specs.Masters.{MasterTables}
 use Rattle.eco_embed.specs.declared.feed.Feed.{Feed}
 use Rattle.eco_embed.specs.declared.feed.Feed.TheVariants.{Zero}
 use Rattle.eco_embed.specs.declared.embedding.Embedding.{Embedding}
-use Rattle.eco_embed.specs.Feeds.{fed_row, is_among, is_zero, rank, IsNoLaterFeed}
+use Rattle.eco_embed.specs.Feeds.{feed_value, fed_row, is_among, is_zero, rank, IsNoLaterFeed}
 
 -- The feeds of the master's inputs, and what stands past them.
 abbrev pub feeds_of : MasterTables → Embedding → List Feed
@@ -21,6 +21,12 @@ feeds_of master e = take (length master.inputs) e.pins
 pub record Serves (want table : TruthTable) (feeds : List Feed) : Type 0 where
   pub among : list_all (is_among want.inputs) feeds ≡ true
   pub computes : (r : ℕ) → r < 2 ^ want.inputs → at table (fed_row feeds r) ≡ at want r
+
+-- What serves has the wanted value at each list of bits of the gate's inputs.
+abbrev pub ServesAllBits : Type 0
+ServesAllBits =
+    (want table : TruthTable) (feeds : List Feed) → Serves want table feeds
+    → (bits : List Bool) → length bits ≡ want.inputs → look table (map (feed_value bits) feeds) ≡ look want bits
 
 -- No feeds make the wanted table of a table.
 abbrev pub ServesNone : TruthTable → TruthTable → Type 0

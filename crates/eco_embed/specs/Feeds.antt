@@ -2,7 +2,7 @@
 use Rattle.std.specs.Ordering.{nat_cmp}
 use Rattle.std.specs.declared.cmp.Ordering.TheVariants.{Greater}
 use Rattle.std.specs.Cmp.Lexicographic.{slice_cmp}
-use Rattle.std.specs.Prelude.{◌≢◌, ℕ, ◌/◌, ◌%◌, ◌^◌, ◌+◌, ◌==◌, nat_lt, Bool, true, false, List, map}
+use Rattle.std.specs.Prelude.{◌≢◌, ℕ, ◌/◌, ◌%◌, ◌^◌, ◌+◌, ◌==◌, nat_lt, Bool, true, false, List, map, slice_index_or}
 use Rattle.eco_embed.specs.declared.feed.Feed.{Feed}
 use Rattle.eco_embed.specs.declared.feed.Feed.TheVariants.{Zero, One, Input}
 use Rattle.eco_func.specs.Tables.{row}
@@ -16,6 +16,12 @@ abbrev pub feed_bit : ℕ → Feed → Bool
 feed_bit r Zero = false
 feed_bit r One = true
 feed_bit r (Input i) = bit r i
+
+-- The value of a feed where the gate's inputs have these bits.
+abbrev pub feed_value : List Bool → Feed → Bool
+feed_value bits Zero = false
+feed_value bits One = true
+feed_value bits (Input i) = slice_index_or bits i false
 
 -- The row of the master's inputs that the feeds make of a row of the gate's inputs.
 abbrev pub fed_row : List Feed → ℕ → ℕ

@@ -2,6 +2,8 @@
 //! inputs.
 #![tactic(auto)]
 
+ghost use Rattle.eco_embed.specs.Embeddings.{ServesAllBits};
+
 mod embedding;
 mod feed;
 mod fit;
@@ -14,6 +16,11 @@ pub use crate::embedding::Embedding;
 pub use crate::feed::Feed;
 pub use crate::fit::fits;
 pub use crate::insertion::embed;
+
+/// A law of embeddings: whatever bits the gate's inputs have, the chosen output with its feeds has the gate's value.
+pub fn serves_all_bits()
+    ensures { ServesAllBits }
+{}
 
 #[cfg(test)]
 mod tests;

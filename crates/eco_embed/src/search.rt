@@ -39,7 +39,11 @@ pub fn first_feeds(want: &Table, feeds: u8, words: &[u64], pins: usize) -> Optio
     ensures { MatchOption result (NoFeeds want.now words.now pins) (FirstFeeds want.now words.now pins) }
 {
     if pins == 0 {
-        return if agrees(want, words[0]) { Some([Feed::Zero; 6]) } else { None };
+        return if agrees(want, words[0]) {
+            Some([Feed::Zero; 6])
+        } else {
+            None
+        };
     }
     if !reaches(want, words) {
         return None;

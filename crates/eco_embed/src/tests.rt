@@ -31,23 +31,25 @@ fn master(rt: &impl Abort, alloc: Global, inputs: u8, texts: &[&str]) -> Result<
 
 // NAND2, AOI21 and NOR2 have their usual functions; HA is a half adder with its carry first.
 const NAND2: [&str; 1] = ["1110"];
+
 const AOI21: [&str; 1] = ["11100000"];
+
 const HA: [&str; 2] = ["0001", "0110"];
 
 #[test]
 fn first_embeddings(rt: HostRuntime) -> Result<(), Fail> {
     let (zero, one) = (Feed::Zero, Feed::One);
     let (i0, i1) = (Feed::Input(0), Feed::Input(1));
-    let cases = [
-        (2, "1000", 3, &AOI21 as &[&str], Some((0, [one, i0, i1]))),
-        (1, "10", 2, &NAND2, Some((0, [one, i0, zero]))),
+    let cases: [(u8, &str, u8, &[&str], Option<(u8, &[Feed])>); 9] = [
+        (2, "1000", 3, &AOI21, Some((0, &[one, i0, i1]))),
+        (1, "10", 2, &NAND2, Some((0, &[one, i0, zero]))),
         (2, "0110", 3, &AOI21, None),
         (2, "0111", 2, &NAND2, None),
-        (0, "1", 3, &AOI21, Some((0, [zero, zero, zero]))),
-        (0, "0", 3, &AOI21, Some((0, [zero, zero, one]))),
-        (2, "0110", 2, &HA, Some((1, [i0, i1, zero]))),
-        (1, "01", 2, &HA, Some((0, [one, i0, zero]))),
-        (1, "10", 2, &HA, Some((1, [one, i0, zero]))),
+        (0, "1", 3, &AOI21, Some((0, &[zero, zero, zero]))),
+        (0, "0", 3, &AOI21, Some((0, &[zero, zero, one]))),
+        (2, "0110", 2, &HA, Some((1, &[i0, i1, zero]))),
+        (1, "01", 2, &HA, Some((0, &[one, i0, zero]))),
+        (1, "10", 2, &HA, Some((1, &[one, i0, zero]))),
     ];
     for (inputs, text, pins, texts, wanted) in cases {
         let want = table(&rt, inputs, text);
@@ -56,7 +58,7 @@ fn first_embeddings(rt: HostRuntime) -> Result<(), Fail> {
             (Some(found), Some((output, feeds))) => {
                 assert!(rt; fits(&want, &master, &found));
                 assert_eq!(rt; found.output, output);
-                assert_eq!(rt; found.pins[..3], feeds[..]);
+                assert!(rt; found.pins.starts_with(feeds));
             }
             (found, wanted) => assert!(rt; found.is_none() && wanted.is_none()),
         }

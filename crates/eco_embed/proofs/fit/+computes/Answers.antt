@@ -1,4 +1,4 @@
-use Rattle.std.proofs.Common.{◌≡◌, ◌^◌, ◌/◌, ◌+◌, suc, length, take, ◌∙◌, ap, sym, arith, ◌≤◌}
+use Rattle.std.proofs.Common.{length, ◌∙◌, sym, arith}
 use Rattle.std.proofs.lemmas.List.{length-take-le}
 use Rattle.eco_embed.proofs.RowBits.{few_rows}
 use Rattle.eco_embed.proofs.Folding.{half, longer, all_meet, meet_all}

@@ -1,4 +1,4 @@
-use Rattle.std.proofs.Common.{◌≡◌, ℕ, ◌+◌, ◌≤◌, ◌<◌, length, get_or, ◌∙◌, ap, sym, subst, arith}
+use Rattle.std.proofs.Common.{◌≡◌, ◌<◌, length, get_or, ◌∙◌, ap, subst, arith}
 use Rattle.eco_embed.proofs.Outputs.{NoneBefore, master_parts, item_at, none_more, is_first, none_at_all}
 use Rattle.eco_embed.proofs.insertion.embed.Goals as goal
 
@@ -28,5 +28,5 @@ pub returns : goal.returns
 returns c =
     let master = c.args.master.now in
     let end : c.loop-output.output ≡ length master.outputs =
-      omega (arith, c.loop-output-test.false, c.loop-output.auto.output-end, ap length c.outputs-function-items.ensures.value) in
+    omega (arith, c.loop-output-test.false, c.loop-output.auto.output-end, ap length c.outputs-function-items.ensures.value) in
     none_at_all c.args.want.now master (subst (NoneBefore c.args.want.now master) end c.loop-output.invariant)

@@ -1,4 +1,4 @@
-use Rattle.std.proofs.Common.{◌≡◌, ℕ, ◌*◌, ◌%◌, ◌^◌, ◌≤◌, length, take, ◌∙◌, ap, sym, subst, arith}
+use Rattle.std.proofs.Common.{◌^◌, ◌≤◌, ◌∙◌, ap, sym, subst, arith}
 use Rattle.std.proofs.lemmas.List.{length-take-le}
 use Rattle.std.proofs.lemmas.Nat.{one_shl}
 use Rattle.eco_embed.proofs.RowBits.{few_rows}

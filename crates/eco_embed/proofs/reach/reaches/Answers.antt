@@ -23,6 +23,6 @@ returns c = λ reach.
     let seen = subst (λ n. Seen words n c.loop-word.ones c.loop-word.zeros) end c.loop-word.invariant in
     let mask = c.low_rows-rows.ensures ∙ ap (λ i. 2 ^ (2 ^ i) - 1) c.inputs.ensures.value in
     let all = all_reached want words c.loop-word.ones c.loop-word.zeros c.chosen.result few seen
-      (λ r. c.chosen.ensures r ∙ ap (λ b. cond (bit b r) (bit c.loop-word.ones r) (bit c.loop-word.zeros r)) c.bits.ensures.value) reach in
+    (λ r. c.chosen.ensures r ∙ ap (λ b. cond (bit b r) (bit c.loop-word.ones r) (bit c.loop-word.zeros r)) c.bits.ensures.value) reach in
     tested (bit_and c.chosen.result c.low_rows-rows.result) c.low_rows-rows.result
     (subst (λ m. bit_and c.chosen.result m ≡ m) (sym mask) all)

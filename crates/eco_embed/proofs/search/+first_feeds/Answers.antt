@@ -1,6 +1,5 @@
-use Rattle.std.proofs.Common.{◌≡◌, ℕ, ◌+◌, ◌-◌, ◌/◌, ◌≤◌, ◌<◌, ◌^◌, suc, length, take, ◌∙◌, ap, sym, subst, arith}
+use Rattle.std.proofs.Common.{◌≡◌, ◌+◌, ◌-◌, ◌/◌, ◌^◌, suc, length, take, ◌∙◌, ap, sym, subst, arith}
 use Rattle.std.proofs.lemmas.List.{length-take-le}
-use Rattle.eco_embed.specs.Feeds.{rank}
 use Rattle.eco_embed.proofs.RowBits.{few_rows}
 use Rattle.eco_embed.proofs.Folding.{half}
 use Rattle.eco_embed.proofs.Searching.{Tried, tried_more, found, none_left, unreached}
@@ -21,8 +20,8 @@ first_feeds-requires t c =
     let words = c.args.words.now in
     let some : c.args.pins ≡ suc (c.args.pins - 1) = omega arith in
     let count : length (take (length words / 2) c.fed-left.result) ≡ 2 ^ (c.args.pins - 1) =
-      length-take-le _ _ (omega (arith, few_rows c.args.pins c.requires.few, c.requires.words, c.fed-left.ensures.places))
-      ∙ half words (c.args.pins - 1) (c.requires.words ∙ ap (λ n. 2 ^ n) some) in
+    length-take-le _ _ (omega (arith, few_rows c.args.pins c.requires.few, c.requires.words, c.fed-left.ensures.places))
+    ∙ half words (c.args.pins - 1) (c.requires.words ∙ ap (λ n. 2 ^ n) some) in
     (omega (arith, c.decreases), (c.requires.rows, (c.requires.feeds, (omega (arith, c.requires.few), count))))
 
 pub loop-number-preserved : goal.loop-number-preserved
