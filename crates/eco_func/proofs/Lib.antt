@@ -5,3 +5,4 @@ pub mod DocumentLemmas
 pub mod Finding
 pub mod ByName
 pub mod RowLaws
+pub mod RowSteps

@@ -1,12 +1,14 @@
 //! What a master computes.
 
-ghost use Rattle.std.specs.Prelude.{◌≡◌, ◌==◌, ◌&&◌, nat_le, map, length};
+ghost use Rattle.std.specs.Prelude.{◌≡◌, ◌==◌, ◌&&◌, nat_le, map, length, IfOk};
 ghost use Rattle.std.specs.List.{list_any, list_all};
 ghost use Rattle.std.specs.Str.{bytes_eq};
 ghost use Rattle.eco_func.specs.Masters.{is_master, all_differ, pins};
 
+use crate::memory::Memory;
 use crate::name::Name;
 use crate::output::OutputFn;
+use std::alloc::Global;
 use std::marker::Model;
 
 /// A master: its name, its input pins in order, and its outputs with their tables.
@@ -29,7 +31,7 @@ impl Model for MasterFn {
 }
 
 impl MasterFn {
-    ghost use Rattle.std.specs.Prelude.{◌≡◌, IsTrue};
+    ghost use Rattle.std.specs.Prelude.{◌≡◌, IsTrue, IfOk};
     ghost use Rattle.eco_func.specs.Masters.{is_master, master};
 
     /// The master with these pins, if they make one: at most six inputs, one to eight outputs, all pins of distinct
@@ -46,6 +48,20 @@ impl MasterFn {
         } else {
             None
         }
+    }
+
+    /// The same master.
+    pub fn copy(&self, alloc: Global) -> Result<MasterFn, Memory>
+        ensures { IfOk result (λ m. m ≡ self.now) }
+    {
+        let name = self.name.copy(alloc)?;
+        let inputs = copied_names(alloc, &self.inputs)?;
+        let outputs = copied_outputs(alloc, &self.outputs)?;
+        Ok(MasterFn {
+            name,
+            inputs,
+            outputs,
+        })
     }
 
     pub fn name(&self) -> &Name
@@ -69,6 +85,28 @@ impl MasterFn {
     {
         &self.outputs
     }
+}
+
+/// Names of the same bytes.
+fn copied_names(alloc: Global, names: &[Name]) -> Result<Vec<Name>, Memory>
+    ensures { IfOk result (λ copied. copied.items ≡ names.now) }
+{
+    let mut copied = Vec::new(alloc);
+    for name in names {
+        copied.push(name.copy(alloc)?)?;
+    }
+    Ok(copied)
+}
+
+/// Outputs of the same pins and tables.
+fn copied_outputs(alloc: Global, outputs: &[OutputFn]) -> Result<Vec<OutputFn>, Memory>
+    ensures { IfOk result (λ copied. copied.items ≡ outputs.now) }
+{
+    let mut copied = Vec::new(alloc);
+    for output in outputs {
+        copied.push(output.copy(alloc)?)?;
+    }
+    Ok(copied)
 }
 
 /// Whether inputs and outputs make a master.

@@ -43,4 +43,11 @@ impl Name {
     {
         self.bytes.as_slice() == bytes
     }
+
+    /// A name of the same bytes.
+    pub fn copy(&self, alloc: Global) -> Result<Name, Memory>
+        ensures { IfOk result (λ n. n ≡ self.now) }
+    {
+        Name::of(alloc, &self.bytes)
+    }
 }

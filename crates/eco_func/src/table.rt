@@ -1,6 +1,7 @@
 //! Truth tables of at most six inputs.
 
-ghost use Rattle.std.specs.Prelude.{◌<◌, ◌≤◌, ◌^◌, ◌↔◌, IsTrue};
+ghost use Rattle.std.specs.Prelude.{◌≡◌, ◌<◌, ◌≤◌, ◌^◌, ◌↔◌, IsTrue, length};
+ghost use Rattle.eco_func.specs.Tables.{row};
 
 use std::marker::Model;
 
@@ -27,8 +28,8 @@ impl Model for Table {
 }
 
 impl Table {
-    ghost use Rattle.std.specs.Prelude.{◌≡◌, ◌<◌, ◌≤◌, ◌^◌, MatchOption};
-    ghost use Rattle.eco_func.specs.Tables.{TruthTable, IsTable, at};
+    ghost use Rattle.std.specs.Prelude.{◌≡◌, ◌<◌, ◌≤◌, ◌^◌, length, MatchOption};
+    ghost use Rattle.eco_func.specs.Tables.{TruthTable, IsTable, at, look};
 
     /// The table with these inputs and bits.
     pub fn new(inputs: u8, bits: u64) -> Option<Table>
@@ -64,6 +65,30 @@ impl Table {
     {
         self.bits >> row & 1 == 1
     }
+
+    /// The value where the inputs have these bits.
+    pub fn look(&self, bits: &[bool]) -> bool
+        requires { length bits.now ≡ self.now.inputs }
+        ensures { result ≡ look self.now bits.now }
+    {
+        let _inputs = self.inputs();
+        self.at(row_of(bits))
+    }
+}
+
+/// The row of a list of bits.
+fn row_of(bits: &[bool]) -> u8
+    requires { length bits.now ≤ 6 }
+    ensures value { result ≡ row bits.now }
+    ensures within { result < 2 ^ length bits.now }
+{
+    let mut row = 0;
+    for (place, bit) in bits.iter().enumerate() {
+        if *bit {
+            row += 1 << place;
+        }
+    }
+    row
 }
 
 /// Whether no bit stands past the last row.

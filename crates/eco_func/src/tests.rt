@@ -25,6 +25,7 @@ fn tables_have_no_bit_past_the_last_row(rt: HostRuntime) -> Result<(), Fail> {
         Some(table) => {
             assert!(rt; table.inputs() == 2);
             assert!(rt; table.at(0) && table.at(1) && table.at(2) && !table.at(3));
+            assert!(rt; table.look(&[true, false]) && !table.look(&[true, true]));
         }
         None => assert!(rt; false),
     }
@@ -43,6 +44,7 @@ fn functions_of_a_small_library(rt: HostRuntime) -> Result<(), Fail> {
     for (name, inputs, pin, bits) in masters {
         match functions.find(name.as_bytes()) {
             Some(master) => {
+                let master = master.copy(rt.alloc())?;
                 assert!(rt; master.name().is(name.as_bytes()));
                 assert_eq!(rt; master.inputs().len(), inputs);
                 match master.outputs().first() {
