@@ -64,6 +64,7 @@ impl MasterFn {
         })
     }
 
+    /// Its name.
     pub fn name(&self) -> &Name
         ensures { result.now ≡ self.now.name }
     {
@@ -78,7 +79,7 @@ impl MasterFn {
         &self.inputs
     }
 
-    /// The outputs.
+    /// The output pins with their tables.
     pub fn outputs(&self) -> &[OutputFn]
         ensures value { result.now ≡ self.now.outputs }
         ensures is_master { IsTrue (is_master self.now.inputs self.now.outputs) }

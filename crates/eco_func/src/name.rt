@@ -31,6 +31,7 @@ impl Name {
         })
     }
 
+    /// Its bytes.
     pub fn bytes(&self) -> &[u8]
         ensures { result.now ≡ self.now }
     {

@@ -71,7 +71,7 @@ impl Table {
         requires { length bits.now ≡ self.now.inputs }
         ensures { result ≡ look self.now bits.now }
     {
-        let _inputs = self.inputs();
+        prove!(bits.len() == self.inputs() as usize);
         self.at(row_of(bits))
     }
 }
