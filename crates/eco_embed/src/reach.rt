@@ -1,6 +1,6 @@
 //! An early end of a search.
 
-ghost use Rattle.std.specs.Prelude.{◌≡◌, ◌<◌, ◌^◌, ℕ, IsTrue, length, slice_index};
+ghost use Rattle.std.specs.Prelude.{◌≡◌, ◌<◌, ◌^◌, ◌↔◌, ℕ, IsTrue, length, slice_index};
 ghost use Rattle.eco_func.specs.Tables.{at};
 ghost use Rattle.eco_embed.specs.Feeds.{bit};
 ghost use Rattle.eco_embed.specs.Words.{Reaches};
@@ -10,7 +10,7 @@ use eco_func::Table;
 
 /// Whether at each row some word has the wanted value: where none has, no feeds of the pins that are left can give it.
 pub fn reaches(want: &Table, words: &[u64]) -> bool
-    ensures { Reaches want.now words.now → IsTrue result }
+    ensures { IsTrue result ↔ Reaches want.now words.now }
 {
     let (mut ones, mut zeros) = (0, 0);
     for word in words {

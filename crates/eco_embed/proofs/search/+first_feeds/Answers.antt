@@ -55,4 +55,4 @@ returns t c =
     none_left want words pins (omega arith) (subst (Tried want words pins) end c.loop-number.invariant)
 
 pub returns-then-not-reaches : goal.returns-then-not-reaches
-returns-then-not-reaches t c = unreached c.args.want.now c.args.words.now c.args.pins c.requires.words c.reaches.result c.if-not-reaches.true c.reaches.ensures
+returns-then-not-reaches t c = unreached c.args.want.now c.args.words.now c.args.pins c.requires.words c.reaches.result c.if-not-reaches.true c.reaches.ensures.1
