@@ -1,0 +1,8 @@
+pub mod Columns
+pub mod RowBits
+pub mod Folding
+pub mod Serving
+pub mod Searching
+pub mod Outputs
+pub mod Reaching
+pub mod ListLaws

@@ -1,0 +1,3 @@
+pub mod Feeds
+pub mod Embeddings
+pub mod Words

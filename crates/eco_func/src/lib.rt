@@ -1,0 +1,41 @@
+//! Logic functions of masters as truth tables, and the functions file that gives them.
+//!
+//! The functions file is a TOML document with a table per master, in the profile of docs/FORMATS.md.
+#![tactic(auto)]
+
+ghost use Rattle.eco_func.specs.FunctionsFile.{CharactersAreRows};
+ghost use Rattle.eco_func.specs.Tables.{RowsAreBits};
+
+mod bits;
+mod document;
+mod fault;
+mod functions;
+mod master;
+mod memory;
+mod name;
+mod output;
+mod read;
+mod table;
+
+pub use crate::bits::read_table;
+pub use crate::fault::FuncFault;
+pub use crate::functions::Functions;
+pub use crate::master::MasterFn;
+pub use crate::memory::Memory;
+pub use crate::name::Name;
+pub use crate::output::OutputFn;
+pub use crate::read::read_functions;
+pub use crate::table::Table;
+
+/// A law of tables: bit `i` of the row of a list of bits is bit `i` of the list.
+pub fn rows_are_bits()
+    ensures { RowsAreBits }
+{}
+
+/// A law of texts: the character at each place of a table's text is the value at that row.
+pub fn characters_are_rows()
+    ensures { CharactersAreRows }
+{}
+
+#[cfg(test)]
+mod tests;
