@@ -18,7 +18,16 @@ pub struct FileHost<'a, R: Files> {
 }
 
 impl<'a, R: Files> FileHost<'a, R> {
-    pub fn new(files: &'a R) -> FileHost<'a, R> {
+    ghost use Rattle.std.specs.Prelude.{◌≡◌};
+
+    /// A host that has refused nothing and has nothing open.
+    pub fn new(files: &'a R) -> FileHost<'a, R>
+        ensures refused { result.refused ≡ 0 }
+        ensures reads { result.read_faults ≡ 0 }
+        ensures writes { result.write_faults ≡ 0 }
+        ensures open_sources { result.open_sources ≡ 0 }
+        ensures open_sinks { result.open_sinks ≡ 0 }
+    {
         FileHost {
             files,
             refused: 0,
