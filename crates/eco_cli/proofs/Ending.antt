@@ -44,16 +44,16 @@ fails f rose = omega arith
 
 -- how an open and a reading end
 pub reading_of : {T I O V : Type 0} (h : Told T I O) (left : I → Option (List ℕ)) (taken : O → Option (List ℕ)) (old mid new : T) (name : List ℕ) (bytes : V → List ℕ) (x : I) (faults : ℕ) (r : Result V Failure) →
-    IsFirst name (h.sources old) x → h.asked mid ≡ with_asked (h.asked old) (for_source name) → h.asked new ≡ h.asked mid → Counts faults (h.read_faults old) (h.read_faults new) → ReadsAll 134217728 (left x) 0 faults bytes r →
+    IsFirst name (h.sources old) x → h.asked mid ≡ with_asked (h.asked old) (for_source name) → h.asked new ≡ h.asked mid → Counts faults (h.read_faults old) (h.read_faults new) → h.refused new ≡ h.refused old → ReadsAll 134217728 (left x) 0 faults bytes r →
     Reading h left taken old new name bytes r
-reading_of h left taken old mid new name bytes x faults (Ok v) first asked same counts reads = (text_is left name (h.sources old) x (bytes v) first reads.0, reads.1, same ∙ asked)
-reading_of h left taken old mid new name bytes x faults (Err (failed.Words n)) first asked same counts reads = absurd reads
-reading_of h left taken old mid new name bytes x faults (Err failed.TooLong) first asked same counts reads = (text_longer left name (h.sources old) x 134217728 first reads, same ∙ asked)
-reading_of h left taken old mid new name bytes x faults (Err failed.Def) first asked same counts reads = absurd reads
-reading_of h left taken old mid new name bytes x faults (Err (failed.Move fault)) first asked same counts reads = absurd reads
-reading_of h left taken old mid new name bytes x faults (Err failed.Read) first asked same counts reads = (inr (counts.failed (fails faults reads)), same ∙ asked)
-reading_of h left taken old mid new name bytes x faults (Err failed.Write) first asked same counts reads = absurd reads
-reading_of h left taken old mid new name bytes x faults (Err failed.Memory) first asked same counts reads = inr (same ∙ asked)
+reading_of h left taken old mid new name bytes x faults (Ok v) first asked same counts none-refused reads = (text_is left name (h.sources old) x (bytes v) first reads.0, reads.1, same ∙ asked, none-refused)
+reading_of h left taken old mid new name bytes x faults (Err (failed.Words n)) first asked same counts none-refused reads = absurd reads
+reading_of h left taken old mid new name bytes x faults (Err failed.TooLong) first asked same counts none-refused reads = (text_longer left name (h.sources old) x 134217728 first reads, same ∙ asked)
+reading_of h left taken old mid new name bytes x faults (Err failed.Def) first asked same counts none-refused reads = absurd reads
+reading_of h left taken old mid new name bytes x faults (Err (failed.Move fault)) first asked same counts none-refused reads = absurd reads
+reading_of h left taken old mid new name bytes x faults (Err failed.Read) first asked same counts none-refused reads = (inr (counts.failed (fails faults reads)), same ∙ asked)
+reading_of h left taken old mid new name bytes x faults (Err failed.Write) first asked same counts none-refused reads = absurd reads
+reading_of h left taken old mid new name bytes x faults (Err failed.Memory) first asked same counts none-refused reads = (inr (same ∙ asked), none-refused)
 
 -- ---- the opens of a move
 
@@ -77,7 +77,7 @@ ends_reading h left taken old new m bytes failed.Def r back = absurd r
 ends_reading h left taken old new m bytes (failed.Move fault) r back = absurd r
 ends_reading h left taken old new m bytes failed.Read r back = (back, inl (r.1, r.0))
 ends_reading h left taken old new m bytes failed.Write r back = absurd r
-ends_reading h left taken old new m bytes failed.Memory r back = (elim r [ inl none ↦ (0, asks_none m (h.asked old) (h.asked new) none) | inr one ↦ (1, one) ], back)
+ends_reading h left taken old new m bytes failed.Memory r back = (elim r.0 [ inl none ↦ (0, asks_none m (h.asked old) (h.asked new) none) | inr one ↦ (1, one) ], back, r.1)
 
 pub ends_planning : {T I O V : Type 0} (h : Told T I O) (left : I → Option (List ℕ)) (taken : O → Option (List ℕ)) (old new : T) (m : Move) (bytes : V → List ℕ) (v : V) (e : Failure) → Reading h left taken old new m.def bytes (Ok v) → h.sinks_back new ≡ h.sinks_back old → Planning (bytes v) m (Err e) → Ends h left taken old new m (Err e)
 ends_planning h left taken old new m bytes v (failed.Words n) r back p = absurd p
@@ -86,7 +86,7 @@ ends_planning h left taken old new m bytes v failed.Def r back p = (bytes v, r.0
 ends_planning h left taken old new m bytes v (failed.Move fault) r back p = (bytes v, p.0, r.0, record { short = r.1; form = p.1 }, p.2, r.2, back)
 ends_planning h left taken old new m bytes v failed.Read r back p = absurd p
 ends_planning h left taken old new m bytes v failed.Write r back p = absurd p
-ends_planning h left taken old new m bytes v failed.Memory r back p = ((1, r.2), back)
+ends_planning h left taken old new m bytes v failed.Memory r back p = ((1, r.2), back, r.3)
 
 moved_is : (text : List ℕ) (m : Move) (d : DesignRead) (edits : List Edit) → length text ≤ 134217728 → Planning text m (Ok (d, edits)) → IsMoved m text (edited text 0 edits)
 moved_is text m d edits short p = record { design = design_in text d; read = record { short = short; form = p.1 }; may = p.2; issued = p.3.issued }
@@ -128,7 +128,7 @@ ends_writing h left taken old mid new m bytes v d edits (Err failed.Write) read 
   rose_since (h.write_faults old) (h.write_faults mid) (h.write_faults new) no-fault w.2,
 )
 ends_writing h left taken old mid new m bytes v d edits (Err failed.Memory) read back no-refused no-fault p w =
-    (elim w.0 [ inl none ↦ (1, none ∙ read.2) | inr one ↦ (2, asks_both m (h.asked old) (h.asked mid) (h.asked new) read.2 one) ], w.1 ∙ back)
+    (elim w.0 [ inl none ↦ (1, none ∙ read.2) | inr one ↦ (2, asks_both m (h.asked old) (h.asked mid) (h.asked new) read.2 one) ], w.1 ∙ back, w.2 ∙ read.3)
 
 -- ---- what a sink holds
 

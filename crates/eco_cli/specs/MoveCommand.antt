@@ -69,7 +69,7 @@ Ends h left taken old new m (Err failed.Read) = (h.sinks_back new ≡ h.sinks_ba
     ⊎ ((text : List ℕ) × (moved : List ℕ) × IsRead (h.sources old) left m.def text × IsMoved m text moved × asks 2 m (h.asked old) (h.asked new) × Rose (h.refused old) (h.refused new)))
 Ends h left taken old new m (Err failed.Write) = (text : List ℕ) × (moved : List ℕ) × IsRead (h.sources old) left m.def text × IsMoved m text moved
     × asks 2 m (h.asked old) (h.asked new) × GivesFront taken (h.sinks_back old) (h.sinks_back new) moved × Rose (h.write_faults old) (h.write_faults new)
-Ends h left taken old new m (Err failed.Memory) = ((k : ℕ) × asks k m (h.asked old) (h.asked new)) × (h.sinks_back new ≡ h.sinks_back old)
+Ends h left taken old new m (Err failed.Memory) = ((k : ℕ) × asks k m (h.asked old) (h.asked new)) × (h.sinks_back new ≡ h.sinks_back old) × (h.refused new ≡ h.refused old)
 
 -- How a command line ends: a bad word opens nothing, and a move ends as it may.
 abbrev pub Comes : {T I O : Type 0} → Told T I O → (I → Option (List ℕ)) → (O → Option (List ℕ)) → T → T → List (List ℕ) → Result ℕ Failure → Type 0
@@ -80,10 +80,10 @@ Comes h left taken old new words r = (m : Move) × AsksMove words m × Ends h le
 
 -- How the reading of a source ends: its whole text was read; or it is too long; or the open or a read failed; or memory ran out.
 abbrev pub Reading : {T I O V : Type 0} → Told T I O → (I → Option (List ℕ)) → (O → Option (List ℕ)) → T → T → List ℕ → (V → List ℕ) → Result V Failure → Type 0
-Reading h left taken old new name bytes (Ok v) = IsRead (h.sources old) left name (bytes v) × (length (bytes v) ≤ 134217728) × (h.asked new ≡ with_asked (h.asked old) (for_source name))
+Reading h left taken old new name bytes (Ok v) = IsRead (h.sources old) left name (bytes v) × (length (bytes v) ≤ 134217728) × (h.asked new ≡ with_asked (h.asked old) (for_source name)) × (h.refused new ≡ h.refused old)
 Reading h left taken old new name bytes (Err failed.TooLong) = ((text : List ℕ) → IsText (h.sources old) left name text → 134217728 < length text) × (h.asked new ≡ with_asked (h.asked old) (for_source name))
 Reading h left taken old new name bytes (Err failed.Read) = (Rose (h.refused old) (h.refused new) ⊎ Rose (h.read_faults old) (h.read_faults new)) × (h.asked new ≡ with_asked (h.asked old) (for_source name))
-Reading h left taken old new name bytes (Err failed.Memory) = (h.asked new ≡ h.asked old) ⊎ (h.asked new ≡ with_asked (h.asked old) (for_source name))
+Reading h left taken old new name bytes (Err failed.Memory) = ((h.asked new ≡ h.asked old) ⊎ (h.asked new ≡ with_asked (h.asked old) (for_source name))) × (h.refused new ≡ h.refused old)
 Reading h left taken old new name bytes (Err e) = ⊥
 
 -- How the planning of a move in a text ends.
@@ -99,7 +99,7 @@ abbrev pub Writing : {T I O : Type 0} → Told T I O → (I → Option (List ℕ
 Writing h left taken old new name bytes (Ok n) = (h.asked new ≡ with_asked (h.asked old) (for_sink name)) × GivesBack taken (h.sinks_back old) (h.sinks_back new) bytes × (n ≡ length bytes)
 Writing h left taken old new name bytes (Err failed.Read) = (h.asked new ≡ with_asked (h.asked old) (for_sink name)) × (h.sinks_back new ≡ h.sinks_back old) × Rose (h.refused old) (h.refused new)
 Writing h left taken old new name bytes (Err failed.Write) = (h.asked new ≡ with_asked (h.asked old) (for_sink name)) × GivesFront taken (h.sinks_back old) (h.sinks_back new) bytes × Rose (h.write_faults old) (h.write_faults new)
-Writing h left taken old new name bytes (Err failed.Memory) = ((h.asked new ≡ h.asked old) ⊎ (h.asked new ≡ with_asked (h.asked old) (for_sink name))) × (h.sinks_back new ≡ h.sinks_back old)
+Writing h left taken old new name bytes (Err failed.Memory) = ((h.asked new ≡ h.asked old) ⊎ (h.asked new ≡ with_asked (h.asked old) (for_sink name))) × (h.sinks_back new ≡ h.sinks_back old) × (h.refused new ≡ h.refused old)
 Writing h left taken old new name bytes (Err e) = ⊥
 
 -- ---- a command line and its answer
