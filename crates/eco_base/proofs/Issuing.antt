@@ -13,8 +13,8 @@ use Rattle.std.proofs.lemmas.Slice.Eq.{bytes_eq-Decides}
 use Rattle.std.proofs.lemmas.Bool.Decides.{same_from_decides}
 use Rattle.eco_def.specs.Sections.{ArePlaced, DesignLies}
 use Rattle.eco_def.proofs.Designs.{ordinary_all, special_none}
-use Rattle.eco_base.specs.Changes.{NewJoint, Changes, stays_on, pin_of, stands, has_statement, new_pins, is_nil, pin_precedes, precedes, in_order, once_each, Fresh, fresh_nets, changes_of}
-use Rattle.eco_base.specs.Issued.{Edit, edited, InOrder, statement_text, net_text, net_edit, count_text, fresh_text, section_edits, special_edits, nets_first, IsOverlayOf}
+use Rattle.eco_issued.specs.Changes.{NewJoint, Changes, stays_on, pin_of, stands, has_statement, new_pins, is_nil, pin_precedes, precedes, in_order, once_each, Fresh, fresh_nets, changes_of}
+use Rattle.eco_issued.specs.Issued.{Edit, edited, InOrder, statement_text, net_text, net_edit, count_text, fresh_text, section_edits, special_edits, nets_first, IsOverlayOf}
 use Rattle.eco_base.specs.Overlays.{move_edits}
 use Rattle.eco_base.specs.PinMoves.{stands_in}
 use Rattle.eco_base.proofs.Moves.{all_stands_is}

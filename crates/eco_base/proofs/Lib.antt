@@ -1,5 +1,4 @@
 pub mod Stretches
 pub mod Editing
 mod Moves
-mod Examples
 pub mod Issuing

@@ -12,8 +12,8 @@ use Rattle.eco_def.specs.Sections.{AreOrdinary}
 use Rattle.eco_def.proofs.Designs.{ordinary_all, special_none}
 use Rattle.eco_base.specs.declared.fault.MoveFault.TheVariants.{UnknownComponent, NotOnNet, UnknownNet}
 use Rattle.eco_base.specs.Moving.{has_comp, has_net, move_fault}
-use Rattle.eco_base.specs.Changes.{NewJoint, is_no_component, is_of, stays_on, stands, has_statement}
-use Rattle.eco_base.specs.Issued.{Edit}
+use Rattle.eco_issued.specs.Changes.{NewJoint, is_no_component, is_of, stays_on, stands, has_statement}
+use Rattle.eco_issued.specs.Issued.{Edit}
 use Rattle.eco_base.specs.Overlays.{moved_text, move_edits}
 use Rattle.eco_base.specs.PinMoves.{word_bytes, names_in, stands_in, names_net, names_comp}
 

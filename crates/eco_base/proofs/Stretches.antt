@@ -2,7 +2,7 @@
 use Rattle.std.proofs.Common.{◌≡◌, ℕ, ◌-◌, ◌≤◌, List, [], ◌∷◌, ◌++◌, length, take, drop, slice_range, ap, sym, ◌∙◌, arith, length-append, length-drop}
 use Rattle.std.proofs.lemmas.List.{take-append-le, drop-append-le, drop_at, take_all}
 use Rattle.eco_base.specs.declared.stretch.Stretch.{Stretch}
-use Rattle.eco_base.specs.Issued.{Edit}
+use Rattle.eco_issued.specs.Issued.{Edit}
 use Rattle.eco_base.specs.Overlays.{edits_of, Rises}
 
 pub rises_room : (lo hi : ℕ) (ss : List Stretch) → Rises lo hi ss → lo ≤ hi

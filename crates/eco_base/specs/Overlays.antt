@@ -7,8 +7,8 @@ use Rattle.eco_def.specs.Design as said
 use Rattle.eco_def.specs.Named.{joint_names}
 use Rattle.eco_def.specs.View.{design_in}
 use Rattle.eco_base.specs.declared.stretch.Stretch.{Stretch}
-use Rattle.eco_base.specs.Changes.{NewJoint, stays_on, pin_of}
-use Rattle.eco_base.specs.Issued.{Edit, statement_text, IsOverlayOf}
+use Rattle.eco_issued.specs.Changes.{NewJoint, stays_on, pin_of}
+use Rattle.eco_issued.specs.Issued.{Edit, statement_text, IsOverlayOf}
 
 -- each stretch is replaced by the bytes from where the one before ends
 abbrev pub edits_of : List ℕ → ℕ → List Stretch → List Edit

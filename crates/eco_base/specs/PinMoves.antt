@@ -10,7 +10,7 @@ use Rattle.eco_def.specs.declared.design.Comp.{Comp}
 use Rattle.eco_def.specs.Named.{NamedJoint, joint_names}
 use Rattle.eco_def.specs.View.{joint_in}
 use Rattle.eco_base.specs.declared.pin_move.PinMove.{PinMove}
-use Rattle.eco_base.specs.Changes.{NewJoint, is_of}
+use Rattle.eco_issued.specs.Changes.{NewJoint, is_of}
 
 abbrev pub new_joint : PinMove → NewJoint
 new_joint m = record { comp = m.comp.now; pin = m.pin.now; net = m.net.now }

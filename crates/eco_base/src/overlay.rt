@@ -2,7 +2,7 @@
 
 ghost use Rattle.std.specs.Prelude.{◌≡◌, ◌≤◌, [], ◌∷◌, ◌++◌, length, OnOk};
 ghost use Rattle.eco_text.specs.Writing.{Writes};
-ghost use Rattle.eco_base.specs.Issued.{Edit, edited, InOrder};
+ghost use Rattle.eco_issued.specs.Issued.{Edit, edited, InOrder};
 ghost use Rattle.eco_base.specs.Overlays.{edits_of, Rises};
 
 use crate::stretch::Stretch;
@@ -19,7 +19,7 @@ pub struct Overlay {
 
 impl Model for Overlay {
     ghost use Rattle.std.specs.Prelude.{List, length};
-    ghost use Rattle.eco_base.specs.Issued.{Edit};
+    ghost use Rattle.eco_issued.specs.Issued.{Edit};
     ghost use Rattle.eco_base.specs.Overlays.{edits_of, Rises};
 
     ghost Value = { List Edit };

@@ -4,8 +4,8 @@ ghost use Rattle.std.specs.Prelude.{◌≡◌, ◌≤◌, ℕ, List, length};
 ghost use Rattle.eco_text.specs.Writing.{Writes};
 ghost use Rattle.eco_def.specs.View.{design_in};
 ghost use Rattle.eco_def.specs.Sections.{IsReadingOf};
-ghost use Rattle.eco_base.specs.Changes.{NewJoint};
-ghost use Rattle.eco_base.specs.Issued.{edited, issued_text, IsOverlayOf};
+ghost use Rattle.eco_issued.specs.Changes.{NewJoint};
+ghost use Rattle.eco_issued.specs.Issued.{edited, issued_text, IsOverlayOf};
 ghost use Rattle.eco_base.specs.Overlays.{IsMadeFor};
 
 use crate::overlay::Overlay;

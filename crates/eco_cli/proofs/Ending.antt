@@ -5,14 +5,14 @@ use Rattle.eco_text.specs.Causes.{Rose, AppendsFront, HasCause}
 use Rattle.eco_text.specs.Writing.{Writes}
 use Rattle.eco_text.specs.declared.failed.Failed.{Failed}
 use Rattle.eco_text.proofs.Sequence.{appends_nothing}
-use Rattle.eco_base.specs.Issued.{edited}
+use Rattle.eco_issued.specs.Issued.{edited}
 use Rattle.eco_def.specs.View.{design_in}
 use Rattle.eco_def.specs.declared.design.Design.{Design as DesignRead}
 use Rattle.eco_cli.specs.CommandLine.{Move}
 use Rattle.eco_cli.specs.Opens.{Told, Ready, Asked, for_source, for_sink, IsFirst, with_asked, with_back, IsEmptyWhereTold, Counts}
 use Rattle.eco_cli.specs.Whole.{IsWhole, IsLonger, ReadsAll}
 use Rattle.eco_cli.specs.MoveCommand.{IsText, IsRead, asks, GivesBack, GivesFront, IsMoved, Reading, Planning, Writing, Ends}
-use Rattle.eco_base.specs.Issued.{Edit}
+use Rattle.eco_issued.specs.Issued.{Edit}
 use Rattle.eco_cli.specs.declared.failure.Failure.{Failure}
 use Rattle.eco_cli.specs.declared.failure.Failure.TheVariants as failed
 

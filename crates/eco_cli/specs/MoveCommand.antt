@@ -8,8 +8,8 @@ use Rattle.eco_def.specs.FirstForm.{IsFirstForm}
 use Rattle.eco_def.specs.declared.design.Design.{Design as DesignRead}
 use Rattle.eco_def.specs.Sections.{IsReadingOf}
 use Rattle.eco_def.specs.View.{design_in}
-use Rattle.eco_base.specs.Changes.{NewJoint}
-use Rattle.eco_base.specs.Issued.{Edit, issued_text, IsOverlayOf}
+use Rattle.eco_issued.specs.Changes.{NewJoint}
+use Rattle.eco_issued.specs.Issued.{Edit, issued_text, IsOverlayOf}
 use Rattle.eco_base.specs.Moving.{move_fault}
 use Rattle.eco_cli.specs.CommandLine.{Move, AsksMove, IsBadWord}
 use Rattle.eco_cli.specs.Opens.{Ready, Asked, for_source, for_sink, Told, with_asked, with_back}

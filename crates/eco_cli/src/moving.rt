@@ -3,7 +3,7 @@
 ghost use Rattle.std.specs.Prelude.{◌≡◌, ◌≤◌, length};
 ghost use Rattle.eco_text.specs.Writing.{Writes};
 ghost use Rattle.eco_def.specs.Sections.{IsReadingOf};
-ghost use Rattle.eco_base.specs.Issued.{edited};
+ghost use Rattle.eco_issued.specs.Issued.{edited};
 ghost use Rattle.eco_base.specs.Overlays.{IsMadeFor};
 ghost use Rattle.eco_cli.specs.CommandLine.{move_of};
 ghost use Rattle.eco_cli.specs.Opens.{Settled};

@@ -73,8 +73,8 @@ lists = record {
   nets = (codes "vss", Some false) ∷ (codes "hi", None) ∷ (codes "a", None) ∷ (codes "q", None) ∷ (codes "sum", None) ∷ (codes "carry", None) ∷ (codes "pad", None) ∷ (codes "io", None) ∷ (codes "bus", None) ∷ [];
   comps = (codes "u1", half_adder) ∷ (codes "r1", register) ∷ (codes "t1", tie) ∷ (codes "i1", inverter) ∷ (codes "p1", pad) ∷ [];
   tops = (codes "a", record { dir = Input; net = codes "a" }) ∷ (codes "s", record { dir = Output; net = codes "sum" }) ∷ (codes "pad", record { dir = Inout; net = codes "pad" }) ∷ (codes "bus", record { dir = Inout; net = codes "bus" }) ∷ [];
-  low = codes "vss";
-  high = codes "hi";
+  ties = codes "vss" ∷ codes "hi" ∷ [];
+  reserved = [];
 }
 
 abbrev N : Netlist

@@ -6,6 +6,7 @@ use Rattle.std.specs.Ordering.{eq_by_cmp}
 use Rattle.std.specs.Cmp.{Equal-is}
 use Rattle.std.specs.Cmp.Lexicographic.{nat_list_cmp_total}
 use Rattle.std.specs.FinMap.{get, from_entries, find, get-from_entries}
+use Rattle.std.specs.FinSet.{from_list}
 use Rattle.eco_text.specs.declared.geometry.Dir.{Dir}
 use Rattle.eco_net.specs.Netlist.{Name, name_cmp, Kind, Netlist, Component, Top, Pin, TopPin, CompPin, Computes, Outside, pins_of, role_of, input_names, inputs_of, IsNet, IsWhole, IsPin, HasRows, Role}
 use Rattle.eco_net.specs.Drivers.{is_driving, driven, driven_at, driven_top, IsDriver, Computed, IsFree}
@@ -21,8 +22,8 @@ pub record Lists : Type 0 where
   pub nets : List (Name × Option Bool)
   pub comps : List (Name × Part)
   pub tops : List (Name × Top)
-  pub low : Name
-  pub high : Name
+  pub ties : List Name
+  pub reserved : List Name
 
 abbrev pub component : Part → Component
 component x = record { kind = x.0; place = None; joined = from_entries x.1 }
@@ -31,7 +32,7 @@ abbrev pub components : List (Name × Part) → List (Name × Component)
 components es = map (λ e. (e.0, component e.1)) es
 
 abbrev pub made : Lists → Netlist
-made L = record { nets = from_entries L.nets; comps = from_entries (components L.comps); tops = from_entries L.tops; low = L.low; high = L.high }
+made L = record { nets = from_entries L.nets; comps = from_entries (components L.comps); tops = from_entries L.tops; ties = from_list L.ties; reserved = from_list L.reserved }
 
 -- ---- look-ups
 

@@ -25,8 +25,8 @@ ring_lists = record {
   nets = (codes "x", None) ∷ (codes "y", None) ∷ [];
   comps = (codes "i1", inverter (codes "x") (codes "y")) ∷ (codes "i2", inverter (codes "y") (codes "x")) ∷ [];
   tops = [];
-  low = codes "x";
-  high = codes "y";
+  ties = codes "x" ∷ codes "y" ∷ [];
+  reserved = [];
 }
 
 abbrev ring : Netlist
@@ -63,8 +63,8 @@ own_lists = record {
   nets = (codes "y", None) ∷ [];
   comps = (codes "i1", inverter (codes "y") (codes "y")) ∷ [];
   tops = [];
-  low = codes "y";
-  high = codes "y";
+  ties = codes "y" ∷ [];
+  reserved = [];
 }
 
 own_computed : Computed (made own_lists) (codes "y") not_table (Some (codes "y") ∷ [])

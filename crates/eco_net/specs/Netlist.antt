@@ -5,6 +5,7 @@ use Rattle.std.specs.declared.cmp.Ordering.{Ordering}
 use Rattle.std.specs.Ordering.{nat_cmp, eq_by_cmp}
 use Rattle.std.specs.Cmp.Lexicographic.{slice_cmp}
 use Rattle.std.specs.FinMap.{FinMap, get, find}
+use Rattle.std.specs.FinSet.{FinSet}
 use Rattle.eco_text.specs.declared.geometry.Dir.{Dir}
 use Rattle.eco_text.specs.declared.geometry.Point.{Point}
 
@@ -30,13 +31,13 @@ pub record Top : Type 0 where
   pub dir : Dir
   pub net : Name
 
--- nets: each net, and the value of a supply. low, high: the tie nets
+-- nets: each net, and the value of a supply. ties: the tie nets. reserved: names that stand for components elsewhere
 pub record Netlist : Type 0 where
   pub nets : FinMap name_cmp (Option Bool)
   pub comps : FinMap name_cmp Component
   pub tops : FinMap name_cmp Top
-  pub low : Name
-  pub high : Name
+  pub ties : FinSet name_cmp
+  pub reserved : FinSet name_cmp
 
 pub data Pin : Type 0 where
   TopPin : (name : Name) → Pin

@@ -1,6 +1,6 @@
 use Rattle.std.proofs.Common.{◌++◌, [], ◌∷◌, ap, sym, ◌∙◌, append-nil}
 use Rattle.eco_def.specs.View.{net_in}
-use Rattle.eco_base.specs.Issued.{Edit}
+use Rattle.eco_issued.specs.Issued.{Edit}
 use Rattle.eco_base.specs.Overlays.{moved_text}
 use Rattle.eco_base.specs.PinMoves.{new_joint}
 use Rattle.eco_base.proofs.Moves.{on_ok, no_edit, one_edit}

@@ -2,8 +2,8 @@ use Rattle.std.proofs.Common.{◌++◌, [], ◌∷◌, ap, ◌∙◌}
 use Rattle.std.specs.List.{flat_map}
 use Rattle.std.proofs.lemmas.List.{take_all}
 use Rattle.eco_def.specs.View.{joint_in}
-use Rattle.eco_base.specs.Changes.{stays_on}
-use Rattle.eco_base.specs.Issued.{kept_text}
+use Rattle.eco_issued.specs.Changes.{stays_on}
+use Rattle.eco_issued.specs.Issued.{kept_text}
 use Rattle.eco_base.specs.PinMoves.{new_joint}
 use Rattle.eco_base.proofs.moving.put_joints.Goals as goal
 

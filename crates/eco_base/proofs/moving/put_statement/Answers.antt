@@ -1,9 +1,9 @@
 use Rattle.std.proofs.Common.{◌++◌, [], ◌∷◌, ap, sym, ◌∙◌, append_assoc, if◌then◌else◌, false, codes}
 use Rattle.std.specs.List.{flat_map}
 use Rattle.eco_def.specs.View.{joint_in, net_in}
-use Rattle.eco_base.specs.Printing.{spaced}
-use Rattle.eco_base.specs.Changes.{stays_on, pin_of}
-use Rattle.eco_base.specs.Issued.{kept_text, joint_words, tail_text}
+use Rattle.eco_issued.specs.Printing.{spaced}
+use Rattle.eco_issued.specs.Changes.{stays_on, pin_of}
+use Rattle.eco_issued.specs.Issued.{kept_text, joint_words, tail_text}
 use Rattle.eco_base.specs.PinMoves.{new_joint, word_bytes}
 use Rattle.eco_base.proofs.Moves.{on_ok, flat_map-map, put_four}
 use Rattle.eco_base.proofs.moving.put_statement.Goals as goal

@@ -3,7 +3,7 @@ use Rattle.std.proofs.lemmas.List.{take_rest}
 use Rattle.std.proofs.lemmas.Result.{err_from_is_err_and}
 use Rattle.eco_text.proofs.Sequence.{then, longer}
 use Rattle.eco_base.specs.declared.stretch.Stretch.{Stretch}
-use Rattle.eco_base.specs.Issued.{edited}
+use Rattle.eco_issued.specs.Issued.{edited}
 use Rattle.eco_base.specs.Overlays.{edits_of}
 use Rattle.eco_base.proofs.Editing.{edited_on, edited_end, rises_on}
 use Rattle.eco_base.proofs.overlay.write_stretches.Goals as goal

@@ -1,6 +1,6 @@
 use Rattle.std.proofs.Common.{Vec, Global, ℕ, List, [], Ok, Err, subst}
 use Rattle.std.proofs.lemmas.Result.{err_from_is_err_and}
-use Rattle.eco_base.specs.Issued.{edited}
+use Rattle.eco_issued.specs.Issued.{edited}
 use Rattle.eco_cli.specs.CommandLine.{move_of}
 use Rattle.eco_cli.specs.MoveCommand.{one_joint, Planning, Writing}
 use Rattle.eco_cli.proofs.Ending.{ends_reading, ends_planning, ends_writing}

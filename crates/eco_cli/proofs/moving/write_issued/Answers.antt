@@ -1,5 +1,5 @@
 use Rattle.std.proofs.Common.{append-nil}
-use Rattle.eco_base.specs.Issued.{edited}
+use Rattle.eco_issued.specs.Issued.{edited}
 use Rattle.eco_text.proofs.Sequence.{then}
 use Rattle.eco_cli.proofs.Ending.{finishes}
 use Rattle.eco_cli.proofs.moving.write_issued.Goals as goal

@@ -5,8 +5,8 @@ use Rattle.std.specs.List.{flat_map, list_all, filter}
 use Rattle.eco_text.specs.Words.{Token}
 use Rattle.eco_def.specs.Design.{Joint, Net, NetSection, Design}
 use Rattle.eco_def.specs.Named.{NamedJoint, NamedNet, NamedDesign, joint_names, names_of}
-use Rattle.eco_base.specs.Printing.{spaced}
-use Rattle.eco_base.specs.Changes.{NewJoint, Fresh, Changes, is_nil, changes_of}
+use Rattle.eco_issued.specs.Printing.{spaced}
+use Rattle.eco_issued.specs.Changes.{NewJoint, Fresh, Changes, is_nil, changes_of}
 
 -- ---- by names
 
