@@ -1,3 +1,4 @@
 pub mod Printing
 pub mod Changes
 pub mod Issued
+pub mod ReadingBack

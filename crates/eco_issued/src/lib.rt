@@ -1,4 +1,8 @@
 //! Issued texts: the text of a design whose nets have other joints, and the design that is read back from it.
 //!
-//! So far this crate holds the definition of the issued text; it has no code.
+//! This crate has definitions and laws, and no code that runs.
 #![tactic(auto)]
+
+mod laws;
+
+pub use crate::laws::reads_back;
