@@ -1,5 +1,6 @@
 -- The issued text of a text with a design.
 use Rattle.std.proofs.Common.{◌≡◌, ℕ, List, map, Result, Ok, Err, Option, Some, None, refl, ap, sym, ◌∙◌}
+use Rattle.std.specs.List.{flat_map}
 use Rattle.eco_text.specs.Words.{Walk, walk_of}
 use Rattle.eco_def.specs.Parsing.{first_some}
 use Rattle.eco_def.specs.Design.{Comp, NetSection, Part, Nets, Design}
@@ -9,7 +10,7 @@ use Rattle.eco_issued.specs.Changes.{Changes}
 use Rattle.eco_issued.specs.Issued.{edited, edits, issued_design}
 use Rattle.eco_issued.proofs.Faults.{Fault}
 use Rattle.eco_issued.proofs.Allowed.{ChangesOk, Allows}
-use Rattle.eco_issued.proofs.PartEdits.{both_edits, issued_parts}
+use Rattle.eco_issued.proofs.PartEdits.{part_edits, both_edits}
 use Rattle.eco_issued.proofs.Whole.{reads_back_parts}
 use Rattle.eco_issued.proofs.Once.{allows_parts}
 use Rattle.eco_issued.proofs.Edits.{edits_of_parts}
@@ -45,7 +46,7 @@ pub record PartsOf (text : List ℕ) (o : Changes) (d : Design) : Type 0 where
   pub read : parts (walk_of text) ≡ Ok (parts_are, rest)
   pub pins_are : or_none (first_some (map pins_of parts_are)) ≡ d.pins
   pub nets_is : first_some (map nets_of parts_are) ≡ Some d.nets
-  pub edits_are : edited text 0 (edits text o d) ≡ issued_parts text o parts_are
+  pub edits_same : edits text o d ≡ flat_map (part_edits text o) parts_are
 
 pub parts_of : (text : List ℕ) (o : Changes) (d : Design) → design_of text ≡ Ok d → PartsOf text o d
 parts_of text o d is = go (parts (walk_of text)) refl
@@ -62,7 +63,7 @@ parts_of text o d is = go (parts (walk_of text)) refl
           read = e;
           pins_are = pins_from x.0 (last_some (map units_of x.0)) (first_some (map comps_of x.0)) (first_some (map nets_of x.0)) d whole;
           nets_is = found;
-          edits_are = ap (edited text 0) (ap (λ k. both_edits text o k d.nets) (sym special) ∙ sym (edits_of_parts text o x.0 x.1 e d.nets found));
+          edits_same = ap (λ k. both_edits text o k d.nets) (sym special) ∙ sym (edits_of_parts text o x.0 x.1 e d.nets found);
         }
 
 pub changes_read_back : (text : List ℕ) (o : Changes) (d : Design) → ChangesOk o → design_of text ≡ Ok d → Allows o (Nets d.nets) →
@@ -70,4 +71,4 @@ pub changes_read_back : (text : List ℕ) (o : Changes) (d : Design) → Changes
 changes_read_back text o d fine is a =
     let p = parts_of text o d is in
     let m = reads_back_parts text o fine p.parts_are p.rest p.read (allows_parts text o p.parts_are p.rest p.read d.nets p.nets_is a) d is in
-    (m.0, ap design_of p.edits_are ∙ m.1, m.2)
+    (m.0, ap (λ k. design_of (edited text 0 k)) p.edits_same ∙ m.1, m.2)

@@ -27,4 +27,6 @@ pub mod Sorting
 pub mod Names
 pub mod Fitting
 pub mod Issuing
+pub mod Advancing
+pub mod Within
 mod Examples

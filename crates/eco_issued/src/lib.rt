@@ -5,4 +5,4 @@
 
 mod laws;
 
-pub use crate::laws::reads_back;
+pub use crate::laws::{outside, reads_back};
