@@ -39,11 +39,18 @@ pins_from ps (Some n) None t d e = absurd (no_design e)
 pins_from ps (Some n) (Some c) None d e = absurd (no_design e)
 pins_from ps (Some n) (Some c) (Some s) d e = ap (λ k. k.pins) (ok_is e)
 
+comps_from : (ps : List Part) (n : Option ℕ) (c : Option (List Comp)) (t : Option NetSection) (d : Design) → design_from ps n c t ≡ Ok d → or_none c ≡ d.comps
+comps_from ps None c t d e = absurd (no_design e)
+comps_from ps (Some n) None t d e = absurd (no_design e)
+comps_from ps (Some n) (Some c) None d e = absurd (no_design e)
+comps_from ps (Some n) (Some c) (Some s) d e = ap (λ k. k.comps) (ok_is e)
+
 -- the parts of a text with a design
 pub record PartsOf (text : List ℕ) (o : Changes) (d : Design) : Type 0 where
   pub parts_are : List Part
   pub rest : Walk
   pub read : parts (walk_of text) ≡ Ok (parts_are, rest)
+  pub comps_are : or_none (first_some (map comps_of parts_are)) ≡ d.comps
   pub pins_are : or_none (first_some (map pins_of parts_are)) ≡ d.pins
   pub nets_is : first_some (map nets_of parts_are) ≡ Some d.nets
   pub edits_same : edits text o d ≡ flat_map (part_edits text o) parts_are
@@ -61,6 +68,7 @@ parts_of text o d is = go (parts (walk_of text)) refl
           parts_are = x.0;
           rest = x.1;
           read = e;
+          comps_are = comps_from x.0 (last_some (map units_of x.0)) (first_some (map comps_of x.0)) (first_some (map nets_of x.0)) d whole;
           pins_are = pins_from x.0 (last_some (map units_of x.0)) (first_some (map comps_of x.0)) (first_some (map nets_of x.0)) d whole;
           nets_is = found;
           edits_same = ap (λ k. both_edits text o k d.nets) (sym special) ∙ sym (edits_of_parts text o x.0 x.1 e d.nets found);

@@ -1,5 +1,5 @@
 -- The issued text of a small text, by computing the definitions.
-use Rattle.std.proofs.Common.{◌≡◌, ℕ, Bool, true, false, List, [], ◌∷◌, ◌++◌, map, Result, Ok, Err, refl, codes, decimal}
+use Rattle.std.proofs.Common.{◌≡◌, ℕ, Bool, true, false, List, [], ◌∷◌, ◌++◌, map, Result, Ok, Err, refl, codes}
 use Rattle.std.specs.List.{IsDistinct}
 use Rattle.std.specs.Fmt.{digits}
 use Rattle.eco_def.specs.Design.{Design}
@@ -41,7 +41,7 @@ fits (Err e) joints nets = ⊥
 
 gate_fits : fits (design_of base_text) gate_joints (codes "m1" ∷ [])
 unfolding parts part_new units comp_section section_head section_end net_section net_new joint special_section net_tail net_clause_new some_use place some_place comp_clause comp_place comp_new joint_end IsDistinct
-gate_fits = record { count = refl; pins = refl; names = refl; new = refl; distinct = (tt, tt); plain = refl }
+gate_fits = record { count = refl; pins = refl; names = refl; new = refl; distinct = (tt, tt); ordinary = refl }
 
 -- ---- what NETS then says
 
@@ -74,7 +74,7 @@ with_first_statement = refl
 
 top_fits : fits (design_of written_text) top_joints []
 unfolding parts part_new units comp_section section_head section_end net_section net_new joint special_section net_tail net_clause_new some_use place some_place comp_clause comp_place comp_new joint_end pin_net pin_dir pin_use pin_clause pin_clauses top_pin_new pin_section passed_section IsDistinct
-top_fits = record { count = refl; pins = refl; names = refl; new = refl; distinct = (tt, tt); plain = refl }
+top_fits = record { count = refl; pins = refl; names = refl; new = refl; distinct = (tt, tt); ordinary = refl }
 
 -- ---- what can't be printed as a name
 

@@ -10,7 +10,7 @@ use Rattle.eco_def.specs.Named.{NamedPin, NamedJoint, NamedDesign, pin_names, ne
 use Rattle.eco_issued.specs.Changes.{NewJoint, precedes, pin_precedes, in_order, stands, has_statement, pin_of, new_pins, is_nil, once_each, stated_first, changes_of}
 use Rattle.eco_issued.specs.ReadingBack.{can_name, can_stand, first_stated, CanGet}
 use Rattle.eco_issued.proofs.Allowed.{IsName, JointOk, AllJointsOk, FreshOk, ChangesOk, Allows}
-use Rattle.eco_issued.proofs.PinNets.{PinOk}
+use Rattle.eco_issued.proofs.ReadNames.{PinOk}
 use Rattle.eco_issued.proofs.Sorting.{not_true, all_from, all_as, all_join, all_both, all_filter, all_once, all_in_order, distinct_in_order}
 use Rattle.eco_issued.proofs.Names.{name_when, decimal_word}
 
@@ -92,7 +92,7 @@ allows d joints nets can ok = (
   can.count,
   given (new_pins (names_of d) joints) (λ n. new_pins_ok (names_of d) joints n (all_from (can_stand (names_of d)) joints can.pins)) (map (λ k. k.name.bytes) d.nets.nets) ns
       (all_as (Free d) IsName (λ n f. f.named) ns (all_in_order (Free d) precedes firsts free))
-      (all_in_order (λ n. not (bytes_eq n (codes "MUSTJOIN")) ≡ true) precedes firsts (all_from (λ n. not (bytes_eq n (codes "MUSTJOIN"))) firsts can.plain))
+      (all_in_order (λ n. not (bytes_eq n (codes "MUSTJOIN")) ≡ true) precedes firsts (all_from (λ n. not (bytes_eq n (codes "MUSTJOIN"))) firsts can.ordinary))
       (all_as (Free d) (λ n. is_among (map (λ k. k.name.bytes) d.nets.nets) n ≡ false) (λ n f. f.new) ns (all_in_order (Free d) precedes firsts free))
       (distinct_in_order precedes firsts can.distinct),
 )

@@ -18,7 +18,7 @@ pub mod Nets
 pub mod Fresh
 pub mod Sections
 pub mod Whole
-pub mod PinNets
+pub mod ReadNames
 pub mod Once
 pub mod Order
 pub mod Edits
@@ -27,6 +27,7 @@ pub mod Sorting
 pub mod Names
 pub mod Fitting
 pub mod Issuing
+pub mod Getting
 pub mod Advancing
 pub mod Within
 mod Examples

@@ -1,5 +1,5 @@
 -- Names and numbers are words where they are printed.
-use Rattle.std.proofs.Common.{◌≡◌, ℕ, zero, suc, ◌+◌, ◌/◌, ◌%◌, ◌<◌, ◌==◌, nat_le, ◌&&◌, ◌||◌, Bool, true, false, not, List, [], ◌∷◌, length, decimal, sym, arith, true≢false, if◌then◌else◌}
+use Rattle.std.proofs.Common.{◌≡◌, ℕ, zero, suc, ◌+◌, ◌/◌, ◌%◌, ◌<◌, ◌==◌, nat_le, ◌&&◌, ◌||◌, Bool, true, false, not, List, [], ◌∷◌, length, decimal, refl, sym, arith, true≢false, if◌then◌else◌}
 use Rattle.std.specs.List.{list_all}
 use Rattle.std.specs.Fmt.{digits, digits_onto, digit_glyph}
 use Rattle.std.proofs.lemmas.Bool.{and_parts, or_parts}
@@ -31,6 +31,12 @@ name_when (b ∷ bs) e =
     let signs = or_parts (b == 35) (b == 34) (not_true (b == 35 || b == 34) p.0) in
     let clear = name_bytes (b ∷ bs) (printable (b ∷ bs) p.1) in
     ((clear.0, signs.0, signs.1, clear.1), p.1)
+
+pub can_name_when : (w : List ℕ) → IsName w → can_name w ≡ true
+can_name_when [] ok = absurd ok.0
+can_name_when (b ∷ bs) ok =
+    let signs : not (b == 35 || b == 34) ≡ true = rw (ok.0.1, ok.0.2) refl in
+    rw (signs, ok.1) refl
 
 -- ---- numbers
 

@@ -109,7 +109,7 @@ keeps_comp_clause =
     (keeps_then keeps_any (λ p p' sp. keeps_choose (tests_one_of (codes "PLACED" ∷ codes "FIXED" ∷ codes "COVER" ∷ [])) (keeps_fewer 0 (omega arith) keeps_some_place) (keeps_give refl)))
     (keeps_as _ _ keeps_any (λ o o' so. refl))
 
-keeps_comp_place : Keeps 0 (λ x y. y ≡ x) SameNext comp_place comp_place
+pub keeps_comp_place : Keeps 0 (λ x y. y ≡ x) SameNext comp_place comp_place
 unfolding comp_place
 keeps_comp_place =
     keeps_as _ _ (keeps_many_until (λ x y. y ≡ x) (λ before. comp_clause) (λ before. comp_clause) (tests_word (codes ";")) (λ xs ys b. keeps_comp_clause)) (λ cs cs' scs. ap first_some (beside_same cs cs' scs))

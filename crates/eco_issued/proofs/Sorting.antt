@@ -55,7 +55,7 @@ pub all_in_order : {A : Type 0} (P : A → Type 0) (before : A → A → Bool) (
 all_in_order P before [] all = tt
 all_in_order P before (x ∷ xs) all = all_put P before x (in_order before xs) all.0 (all_in_order P before xs all.1)
 
-bytes_differ : (a b : List ℕ) → bytes_eq a b ≡ false → bytes_eq b a ≡ false
+pub bytes_differ : (a b : List ℕ) → bytes_eq a b ≡ false → bytes_eq b a ≡ false
 bytes_differ a b e = go (bytes_eq b a) refl
   where
     go : (c : Bool) → bytes_eq b a ≡ c → bytes_eq b a ≡ false

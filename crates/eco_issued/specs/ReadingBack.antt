@@ -10,7 +10,8 @@ use Rattle.eco_def.specs.Named.{NamedDesign, names_of}
 use Rattle.eco_issued.specs.Changes.{NewJoint, Changes, stands, has_statement, stated_first, changes_of}
 use Rattle.eco_issued.specs.Issued.{issued_design, issued_text, edits, InOrder}
 
--- Bytes that are read as a name where they are printed: neither a comment nor a quoted word begins with them.
+-- Bytes that are read as a name where they are printed: they have a name's form, and neither a comment nor a quoted word
+-- begins with them.
 abbrev pub can_name : List ℕ → Bool
 can_name [] = false
 can_name (b ∷ bs) = not (b == 35 || b == 34) && is_name (plain_word 0 (b ∷ bs) 0)
@@ -33,7 +34,7 @@ pub record CanGet (d : Design) (joints : List NewJoint) (nets : List (List ℕ))
   pub new : list_all (λ n. not (has_statement (names_of d).nets n)) nets ≡ true
   -- nets that get their first statement differ, and none is MUSTJOIN, which begins another kind of statement
   pub distinct : IsDistinct bytes_eq (first_stated (names_of d) joints nets)
-  pub plain : list_all (λ n. not (bytes_eq n (codes "MUSTJOIN"))) (first_stated (names_of d) joints nets) ≡ true
+  pub ordinary : list_all (λ n. not (bytes_eq n (codes "MUSTJOIN"))) (first_stated (names_of d) joints nets) ≡ true
 
 -- The issued text has a design: by names, that of the text with these pins on their nets, and with these new nets.
 abbrev pub ReadsBack : Type 0

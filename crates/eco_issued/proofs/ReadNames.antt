@@ -1,18 +1,41 @@
--- The nets that top pins name are names.
-use Rattle.std.proofs.Common.{◌≡◌, ℕ, Bool, true, false, not, List, [], ◌∷◌, map, Ok, Option, Some, None, refl, if◌then◌else◌, codes}
+-- Components' names and the nets of top pins are names.
+use Rattle.std.proofs.Common.{◌≡◌, ℕ, Bool, true, false, not, List, [], ◌∷◌, map, Ok, Option, Some, None, refl, ap, sym, ◌∙◌, subst, if◌then◌else◌, codes}
 use Rattle.std.specs.List.{AllByRecursion}
 use Rattle.eco_text.specs.Words.{Token, Walk, between, walk_of}
-use Rattle.eco_def.specs.Parsing.{Parser, refuse, is_word, first_some}
-use Rattle.eco_def.specs.Design.{TopPin, Part, Passed, Units, Comps, Pins, Special, Nets}
-use Rattle.eco_def.specs.Grammar.{is_one_of, dir_of, PinClause, OnNet, Directed, Used, Other, pin_net, pin_dir, pin_use, pin_clause, pin_clauses, net_in, pin_on, top_pin_new, top_pin, units_number, units, comp_section, pin_section, special_section, net_section, passed_section, passed_up_to, passed_sections, passed_statements, Kind, CompKind, PinKind, SpecialKind, NetKind, have, once, part_new, part, parts, pins_of, or_none}
+use Rattle.eco_def.specs.Parsing.{Parser, refuse, begins, any, choose, is_word, is_name, new_name, first_some}
+use Rattle.eco_def.specs.Design.{Comp, TopPin, Part, Passed, Units, Comps, Pins, Special, Nets}
+use Rattle.eco_def.specs.Grammar.{is_one_of, comp_new, comp, dir_of, PinClause, OnNet, Directed, Used, Other, pin_net, pin_dir, pin_use, pin_clause, pin_clauses, net_in, pin_on, top_pin_new, top_pin, units_number, units, comp_section, pin_section, special_section, net_section, passed_section, passed_up_to, passed_sections, passed_statements, Kind, CompKind, PinKind, SpecialKind, NetKind, have, once, part_new, part, parts, comps_of, pins_of, or_none}
 use Rattle.eco_issued.proofs.Allowed.{IsName}
 use Rattle.eco_issued.proofs.Faults.{bad_statement, twice_named, unknown_heading}
-use Rattle.eco_issued.proofs.Rules.{tests_word, keeps_word, keeps_valued, keeps_new_name}
-use Rattle.eco_issued.proofs.Pieces.{good}
-use Rattle.eco_issued.proofs.Making.{Makes, makes_keeps, makes_give, makes_refuse, makes_any, makes_name, makes_choose, makes_then, makes_many}
-use Rattle.eco_issued.proofs.Passing.{keeps_comps, keeps_head, keeps_end, keeps_pass_to, keeps_pass_to_both}
+use Rattle.eco_issued.proofs.Rules.{tests_word, keeps_word, keeps_valued, keeps_new_name, keeps_comp_place}
+use Rattle.eco_issued.proofs.Pieces.{AllGood, good}
+use Rattle.eco_issued.proofs.Ending.{chosen, refused, any_is}
+use Rattle.eco_issued.proofs.Making.{name_of, Makes, makes_keeps, makes_give, makes_refuse, makes_any, makes_name, makes_choose, makes_then, makes_many}
+use Rattle.eco_issued.proofs.Passing.{keeps_head, keeps_end, keeps_pass_to, keeps_pass_to_both}
 use Rattle.eco_issued.proofs.Statements.{UseOk}
 use Rattle.eco_issued.proofs.Whole.{keeps_nets, keeps_end_design}
+
+-- ---- a component
+
+abbrev pub CompOk : Comp → Type 0
+CompOk c = IsName c.name.bytes
+
+new_name_ok : (known : List ℕ → Bool) → Makes (λ w. IsName w.bytes) (new_name known)
+new_name_ok known u x r g e =
+    chosen is_name (choose (λ w. known w.bytes) (refuse twice_named) any) (refuse bad_statement) u x r e (IsName x.bytes × AllGood r)
+    (λ i e. chosen (λ w. known w.bytes) (refuse twice_named) any u x r e (IsName x.bytes × AllGood r)
+    (λ j e. absurd (refused twice_named u x r e))
+    (λ j e. let is = any_is u x r e in (name_of x u r g is (ap (begins is_name) (sym is) ∙ i), (subst (λ k. AllGood k) is g).1)))
+    (λ i e. absurd (refused bad_statement u x r e))
+
+comp_ok : (known : List ℕ → Bool) → Makes CompOk (comp_new known)
+unfolding comp_new
+comp_ok known =
+    makes_then (makes_keeps (keeps_word (codes "-"))) (λ d t.
+    makes_then (new_name_ok known) (λ n ok.
+    makes_then makes_name (λ m t.
+    makes_then (makes_keeps keeps_comp_place) (λ p t.
+    makes_then (makes_keeps (keeps_word (codes ";"))) (λ e t. makes_give CompOk ok)))))
 
 -- ---- a pin
 
@@ -63,6 +86,7 @@ pin_ok known =
 -- ---- a part
 
 abbrev pub PartOk : Part → Type 0
+PartOk (Comps cs) = AllByRecursion CompOk cs
 PartOk (Pins ps) = AllByRecursion PinOk ps
 PartOk _ = Unit {0}
 
@@ -82,7 +106,9 @@ units_ok =
 comps_ok : Makes PartOk comp_section
 unfolding comp_section
 comps_ok =
-    makes_then (makes_keeps (keeps_head (codes "COMPONENTS"))) (λ c t. makes_then (makes_keeps keeps_comps) (λ cs t. makes_then (makes_keeps (keeps_end (codes "COMPONENTS"))) (λ e t. makes_give PartOk {x = Comps cs} tt)))
+    makes_then (makes_keeps (keeps_head (codes "COMPONENTS"))) (λ c t.
+    makes_then (makes_many CompOk (is_word (codes "-")) comp (λ xs. comp_ok _)) (λ cs all.
+    makes_then (makes_keeps (keeps_end (codes "COMPONENTS"))) (λ e t. makes_give PartOk {x = Comps cs} all)))
 
 special_ok : Makes PartOk special_section
 unfolding special_section
@@ -136,6 +162,19 @@ pins_of_parts (Pins qs ∷ ps) all = all.0
 pins_of_parts ((Special ss) ∷ ps) all = pins_of_parts ps all.1
 pins_of_parts ((Nets s) ∷ ps) all = pins_of_parts ps all.1
 
+comps_of_parts : (ps : List Part) → AllByRecursion PartOk ps → AllByRecursion CompOk (or_none (first_some (map comps_of ps)))
+comps_of_parts [] all = tt
+comps_of_parts (Passed ∷ ps) all = comps_of_parts ps all.1
+comps_of_parts ((Units n) ∷ ps) all = comps_of_parts ps all.1
+comps_of_parts (Comps cs ∷ ps) all = all.0
+comps_of_parts ((Pins qs) ∷ ps) all = comps_of_parts ps all.1
+comps_of_parts ((Special ss) ∷ ps) all = comps_of_parts ps all.1
+comps_of_parts ((Nets s) ∷ ps) all = comps_of_parts ps all.1
+
 -- each net that a top pin of a text names is a name
 pub pin_nets_named : (text : List ℕ) (ps : List Part) (r : Walk) → parts (walk_of text) ≡ Ok (ps, r) → AllByRecursion PinOk (or_none (first_some (map pins_of ps)))
 pin_nets_named text ps r e = pins_of_parts ps (parts_ok (walk_of text) ps r (good text between 0 tt) e).0
+
+-- so is each component's name
+pub comps_named : (text : List ℕ) (ps : List Part) (r : Walk) → parts (walk_of text) ≡ Ok (ps, r) → AllByRecursion CompOk (or_none (first_some (map comps_of ps)))
+comps_named text ps r e = comps_of_parts ps (parts_ok (walk_of text) ps r (good text between 0 tt) e).0
