@@ -76,6 +76,19 @@ top_fits : fits (design_of written_text) top_joints []
 unfolding parts part_new units comp_section section_head section_end net_section net_new joint special_section net_tail net_clause_new some_use place some_place comp_clause comp_place comp_new joint_end pin_net pin_dir pin_use pin_clause pin_clauses top_pin_new pin_section passed_section IsDistinct
 top_fits = record { count = refl; pins = refl; names = refl; new = refl; distinct = (tt, tt); ordinary = refl }
 
+-- ---- NETS before SPECIALNETS
+
+abbrev nets_first_text : List ℕ
+nets_first_text = codes "UNITS DISTANCE MICRONS 1 ; COMPONENTS 0 ; END COMPONENTS NETS 1 ; - n1 ( u1 A ) ; END NETS SPECIALNETS 1 ; - VDD ( * VDD ) + SHAPE x ; END SPECIALNETS END DESIGN"
+
+abbrev tie_joints : List NewJoint
+tie_joints = record { comp = codes "u1"; pin = codes "A"; net = codes "VDD" } ∷ []
+
+tied_behind : issued_of nets_first_text (design_of nets_first_text) tie_joints [] ≡
+    codes "UNITS DISTANCE MICRONS 1 ; COMPONENTS 0 ; END COMPONENTS NETS 1 ; - n1 ; END NETS SPECIALNETS 1 ; - VDD ( * VDD ) ( u1 A ) + SHAPE x ; END SPECIALNETS END DESIGN"
+unfolding parts part_new units comp_section section_head section_end net_section net_new joint special_section net_tail net_clause_new some_use place some_place comp_clause comp_place comp_new joint_end digits
+tied_behind = refl
+
 -- ---- what can't be printed as a name
 
 no_comment : can_name (codes "#n") ≡ false
@@ -105,3 +118,12 @@ quoted_count = refl
 quoted_count_is_lost : has_design (design_of (issued_of quoted_text (design_of quoted_text) [] (codes "m1" ∷ []))) ≡ false
 unfolding parts part_new units comp_section section_head section_end net_section net_new joint special_section net_tail net_clause_new some_use place some_place comp_clause comp_place comp_new joint_end digits
 quoted_count_is_lost = refl
+
+-- A new net that has a statement in NETS, or is MUSTJOIN, isn't read back.
+second_statement : has_design (design_of (issued_of base_text (design_of base_text) [] (codes "n1" ∷ []))) ≡ false
+unfolding parts part_new units comp_section section_head section_end net_section net_new joint special_section net_tail net_clause_new some_use place some_place comp_clause comp_place comp_new joint_end digits
+second_statement = refl
+
+must_join : has_design (design_of (issued_of base_text (design_of base_text) [] (codes "MUSTJOIN" ∷ []))) ≡ false
+unfolding parts part_new units comp_section section_head section_end net_section net_new joint special_section net_tail net_clause_new some_use place some_place comp_clause comp_place comp_new joint_end digits
+must_join = refl
