@@ -1,0 +1,10 @@
+pub mod Names
+pub mod Members
+pub mod Lookups
+pub mod Joining
+pub mod Statements
+pub mod Pins
+pub mod Nets
+pub mod Issuing
+pub mod Unchanged
+mod Examples
