@@ -1,5 +1,5 @@
 -- The netlist of an issued design.
-use Rattle.std.proofs.Common.{◌≡◌, Bool, true, cond, List, [], ◌∷◌, Option, Some, None, is_some, refl, sym, ap, ◌∙◌, inl, inr, ⊎_elim, ◌⊎◌, fold}
+use Rattle.std.proofs.Common.{◌≡◌, Bool, true, cond, List, [], ◌∷◌, Option, Some, None, is_some, refl, sym, ap, ◌∙◌, inl, inr, ⊎_elim, ◌⊎◌}
 use Rattle.std.specs.List.{find}
 use Rattle.std.specs.Option.{option_map}
 use Rattle.std.specs.Str.{bytes_eq}
@@ -18,7 +18,7 @@ use Rattle.eco_full.specs.Joints.{with_joints, CanJoin}
 use Rattle.eco_full.specs.Laws.{IssuedIs}
 use Rattle.eco_full.proofs.Names.{same_name}
 use Rattle.eco_full.proofs.Lookups.{comp_is, joined_is, same_netlist}
-use Rattle.eco_full.proofs.Joining.{IsFor, put_on, with_pins, for_some, stays_joined, gets_joined, joined_net, joined_comp, joined_tops, joined_ties, joined_reserved}
+use Rattle.eco_full.proofs.Joining.{IsFor, put_pins, with_pins, for_some, stays_joined, gets_joined, new_nets, each_pin}
 use Rattle.eco_full.proofs.Pins.{unmoved, moved}
 use Rattle.eco_full.proofs.Nets.{net_known, issued_net_is}
 
@@ -44,7 +44,7 @@ module _ (kinds : Kinds) (ties : List Name) (d : NamedDesign) (joints : List New
     its_component = comp_is kinds ties d c ∙ ap (option_map (λ x. component_in d x.0 x.1)) is
 
     abbrev IsOn : Name → Type 0
-    IsOn p = get (component_in e x.0 x.1).joined p ≡ get (fold (put_on c) (component_in d x.0 x.1).joined joints) p
+    IsOn p = get (component_in e x.0 x.1).joined p ≡ get (put_pins c (component_in d x.0 x.1).joined joints) p
 
     -- a pin that a joint is of
     put : (p : Name) (j : NewJoint) → Has joints j → j.comp ≡ c → j.pin ≡ p → IsOn p
@@ -59,7 +59,7 @@ module _ (kinds : Kinds) (ties : List Name) (d : NamedDesign) (joints : List New
         ∙ ap (λ o. cond (is_some o) (net_of_pin e x.0.name p) None) role
         ∙ ap (λ z. net_of_pin e z p) its_name
         ∙ moved d joints nets c p j h (f, g) (can.named j in_list) one known
-        ∙ sym (gets_joined joints (component_in d x.0 x.1).joined c p j.net one (inr (j, h, f, g)))
+        ∙ sym (gets_joined joints (component_in d x.0 x.1).joined c p j.net one j h (f, g))
 
     -- a pin that none is of
     left : (p : Name) → ((j : NewJoint) → Has joints j → IsFor j c p → ⊥) → IsOn p
@@ -69,7 +69,7 @@ module _ (kinds : Kinds) (ties : List Name) (d : NamedDesign) (joints : List New
         ∙ sym (joined_is d x.0 x.1 p)
         ∙ sym (stays_joined joints (component_in d x.0 x.1).joined c p none)
 
-    same_joined : (component_in e x.0 x.1).joined ≡ fold (put_on c) (component_in d x.0 x.1).joined joints
+    same_joined : (component_in e x.0 x.1).joined ≡ put_pins c (component_in d x.0 x.1).joined joints
     same_joined = same_map nat_list_cmp_total exact_bytes _ _ (λ p. ⊎_elim (λ r. put p r.0 r.1 r.2 r.3) (λ none. left p none) (for_some joints c p))
 
     same_component : component_in e x.0 x.1 ≡ with_pins joints c (component_in d x.0 x.1)
@@ -80,7 +80,7 @@ module _ (kinds : Kinds) (ties : List Name) (d : NamedDesign) (joints : List New
       comp_is kinds ties e c
       ∙ go (find (λ x. bytes_eq x.0.name c) (known_comps kinds d)) refl
       ∙ ap (option_map (with_pins joints c)) (sym (comp_is kinds ties d c))
-      ∙ sym (joined_comp N joints nets c)
+      ∙ sym (each_pin N.comps joints c)
     where
       go : (o : Option (NamedComp × Kind)) → find (λ x. bytes_eq x.0.name c) (known_comps kinds d) ≡ o →
           option_map (λ x. component_in e x.0 x.1) o ≡ option_map (with_pins joints c) (option_map (λ x. component_in d x.0 x.1) o)
@@ -89,11 +89,11 @@ module _ (kinds : Kinds) (ties : List Name) (d : NamedDesign) (joints : List New
 
   same : netlist_of kinds ties e ≡ with_joints N joints nets
   same = same_netlist (netlist_of kinds ties e) (with_joints N joints nets)
-      (λ q. issued_net_is d joints nets kinds ties (λ n h. can.new n (contains_from_has nets n h)) q ∙ sym (joined_net N joints nets q))
+      (λ q. issued_net_is d joints nets kinds ties (λ n h. can.new n (contains_from_has nets n h)) q ∙ sym (new_nets N.nets nets q))
       issued_comp
-      (λ t. ap (λ m. get m t) (sym (joined_tops N joints nets)))
-      (sym (joined_ties N joints nets))
-      (sym (joined_reserved N joints nets))
+      (λ t. refl)
+      refl
+      refl
 
 pub issued_is : IssuedIs
 issued_is kinds ties d joints nets can = same kinds ties d joints nets can

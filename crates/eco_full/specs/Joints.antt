@@ -1,25 +1,27 @@
 -- Pins of a netlist put on nets, some of them new.
-use Rattle.std.specs.Prelude.{◌≡◌, false, List, Option, Some, None, ◌⊎◌}
-use Rattle.std.specs.List.{Contains, fold}
+use Rattle.std.specs.Prelude.{◌≡◌, Bool, false, List, [], ◌∷◌, Option, Some, None, ◌⊎◌}
+use Rattle.std.specs.List.{Contains}
 use Rattle.std.specs.FinMap.{FinMap, get, insert}
 use Rattle.eco_issued.specs.Changes.{NewJoint, is_no_component}
 use Rattle.eco_net.specs.Netlist.{Name, name_cmp, Component, Netlist, IsNet, IsPin}
 
--- a new net, which is no supply
-abbrev pub with_net : Netlist → Name → Netlist
-with_net N n = record N { nets = insert N.nets n None }
+-- with new nets, which are no supplies
+abbrev pub with_nets : FinMap name_cmp (Option Bool) → List Name → FinMap name_cmp (Option Bool)
+with_nets m [] = m
+with_nets m (n ∷ ns) = insert (with_nets m ns) n None
 
-abbrev pub put_pin : FinMap name_cmp Component → NewJoint → Option Component → FinMap name_cmp Component
-put_pin comps j None = comps
-put_pin comps j (Some x) = insert comps j.comp (record x { joined = insert x.joined j.pin j.net })
+abbrev pub put_on : FinMap name_cmp Component → NewJoint → Option Component → FinMap name_cmp Component
+put_on m j None = m
+put_on m j (Some x) = insert m j.comp (record x { joined = insert x.joined j.pin j.net })
 
--- the component's pin is on that net, and on no other
-abbrev pub with_joint : Netlist → NewJoint → Netlist
-with_joint N j = record N { comps = put_pin N.comps j (get N.comps j.comp) }
+-- each of these pins on its net. Of two joints of one pin the first counts
+abbrev pub put_joints : FinMap name_cmp Component → List NewJoint → FinMap name_cmp Component
+put_joints m [] = m
+put_joints m (j ∷ js) = put_on (put_joints m js) j (get (put_joints m js) j.comp)
 
--- the netlist with these new nets, and with each of these pins put on its net, one after another
+-- the netlist with these new nets and with these pins on their nets
 abbrev pub with_joints : Netlist → List NewJoint → List Name → Netlist
-with_joints N joints nets = fold with_joint (fold with_net N nets) joints
+with_joints N joints nets = record N { nets = with_nets N.nets nets; comps = put_joints N.comps joints }
 
 -- The pins are those of components, and none is put on two nets. Each net is one of the netlist or new, and the new ones
 -- aren't in it.
