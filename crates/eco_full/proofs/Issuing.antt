@@ -1,33 +1,26 @@
 -- The netlist of an issued design.
-use Rattle.std.proofs.Common.{◌≡◌, Bool, true, cond, List, [], ◌∷◌, Option, Some, None, is_some, refl, sym, ap, ◌∙◌, inl, inr, ⊎_elim, ◌⊎◌}
+use Rattle.std.proofs.Common.{◌≡◌, true, cond, List, Option, Some, None, is_some, refl, sym, ap, ◌∙◌, inl, inr, ⊎_elim, ◌⊎◌}
 use Rattle.std.specs.List.{find}
 use Rattle.std.specs.Option.{option_map}
 use Rattle.std.specs.Str.{bytes_eq}
 use Rattle.std.specs.Cmp.Lexicographic.{nat_list_cmp_total}
 use Rattle.std.specs.FinMap.{get, same_map}
 use Rattle.std.specs.FinMap as fin
-use Rattle.std.proofs.lemmas.Bool.{cases_Bool}
 use Rattle.std.proofs.lemmas.Map.Lookups.{exact_bytes}
 use Rattle.eco_def.specs.Named.{NamedComp, NamedDesign}
 use Rattle.eco_issued.specs.Changes.{NewJoint, changes_of}
 use Rattle.eco_issued.specs.Issued.{issued_design}
 use Rattle.eco_net.specs.Netlist.{Name, name_cmp, Kind, Netlist, pins_of}
-use Rattle.eco_net.proofs.Basics.{Has, contains_from_has, has_from_contains, same_Some, not_None}
+use Rattle.eco_net.proofs.Basics.{Has, contains_from_has, has_from_contains, same_Some}
 use Rattle.eco_full.specs.Netlists.{Kinds, has_net, net_of_pin, component_in, known_comps, netlist_of}
 use Rattle.eco_full.specs.Joints.{with_joints, CanJoin}
 use Rattle.eco_full.specs.Laws.{IssuedIs}
 use Rattle.eco_full.proofs.Names.{same_name}
+use Rattle.eco_full.proofs.Members.{found_passes}
 use Rattle.eco_full.proofs.Lookups.{comp_is, joined_is, same_netlist}
 use Rattle.eco_full.proofs.Joining.{IsFor, put_pins, with_pins, for_some, stays_joined, gets_joined, new_nets, each_pin}
 use Rattle.eco_full.proofs.Pins.{unmoved, moved}
 use Rattle.eco_full.proofs.Nets.{net_known, issued_net_is}
-
-pub found_passes : {A : Type 0} (test : A → Bool) (xs : List A) (x : A) → find test xs ≡ Some x → test x ≡ true
-found_passes test [] x e = absurd (not_None (sym e))
-found_passes test (y ∷ ys) x e = ⊎_elim
-    (λ t. ap test (sym (same_Some (sym (ap (λ b. cond b (Some y) (find test ys)) t) ∙ e))) ∙ t)
-    (λ f. found_passes test ys x (sym (ap (λ b. cond b (Some y) (find test ys)) f) ∙ e))
-    (cases_Bool (test y))
 
 module _ (kinds : Kinds) (ties : List Name) (d : NamedDesign) (joints : List NewJoint) (nets : List Name) (can : CanJoin (netlist_of kinds ties d) joints nets) where
   abbrev e : NamedDesign
@@ -38,7 +31,7 @@ module _ (kinds : Kinds) (ties : List Name) (d : NamedDesign) (joints : List New
 
   module _ (c : Name) (x : NamedComp × Kind) (is : find (λ x. bytes_eq x.0.name c) (known_comps kinds d) ≡ Some x) where
     its_name : x.0.name ≡ c
-    its_name = same_name x.0.name c (found_passes (λ x. bytes_eq x.0.name c) (known_comps kinds d) x is)
+    its_name = same_name x.0.name c (found_passes (λ x. bytes_eq x.0.name c) (known_comps kinds d) x is).1
 
     its_component : get N.comps c ≡ Some (component_in d x.0 x.1)
     its_component = comp_is kinds ties d c ∙ ap (option_map (λ x. component_in d x.0 x.1)) is
@@ -89,7 +82,7 @@ module _ (kinds : Kinds) (ties : List Name) (d : NamedDesign) (joints : List New
 
   same : netlist_of kinds ties e ≡ with_joints N joints nets
   same = same_netlist (netlist_of kinds ties e) (with_joints N joints nets)
-      (λ q. issued_net_is d joints nets kinds ties (λ n h. can.new n (contains_from_has nets n h)) q ∙ sym (new_nets N.nets nets q))
+      (λ q. issued_net_is d joints nets kinds ties (λ n h. can.unknown n (contains_from_has nets n h)) q ∙ sym (new_nets N.nets nets q))
       issued_comp
       (λ t. refl)
       refl

@@ -6,5 +6,9 @@ pub mod Statements
 pub mod Pins
 pub mod Nets
 pub mod Issuing
+pub mod Found
+pub mod Rewiring
+pub mod Telling
+pub mod Keeping
 pub mod Unchanged
 mod Examples

@@ -1,10 +1,10 @@
 -- What stands in a list that is made from others.
-use Rattle.std.proofs.Common.{◌≡◌, Bool, true, false, cond, not, List, [], ◌∷◌, refl, sym, ap, ◌∙◌, inl, inr, ⊎_elim, ◌⊎◌, if◌then◌else◌, true≢false, filter}
-use Rattle.std.specs.List.{list_any, list_all}
+use Rattle.std.proofs.Common.{◌≡◌, Bool, true, false, cond, not, List, [], ◌∷◌, Option, Some, None, refl, sym, ap, ◌∙◌, inl, inr, ⊎_elim, ◌⊎◌, if◌then◌else◌, true≢false, filter}
+use Rattle.std.specs.List.{list_any, list_all, find, filter_map, cons_option}
 use Rattle.std.specs.Str.{bytes_eq}
-use Rattle.std.proofs.lemmas.Bool.{or_cases, or_left, or_right, and_parts, and_from}
+use Rattle.std.proofs.lemmas.Bool.{cases_Bool, or_cases, or_left, or_right, and_parts, and_from}
 use Rattle.eco_net.specs.Netlist.{Name}
-use Rattle.eco_net.proofs.Basics.{Has}
+use Rattle.eco_net.proofs.Basics.{Has, same_Some, not_None}
 use Rattle.eco_issued.specs.Changes.{put_in, in_order, once_each}
 use Rattle.eco_full.proofs.Names.{same_or_other, other_name}
 
@@ -94,3 +94,39 @@ to_once (n ∷ ns) z h = ⊎_elim
     (λ e. inl e)
     (λ a. inr (in_filter (λ m. not (bytes_eq m n)) (once_each ns) z (⊎_elim (λ e. absurd (a e)) (λ i. to_once ns z i) h) (ap not (other_name z n (λ e. a (sym e))))))
     (same_or_other n z)
+
+-- ---- the first that passes
+
+pub found_passes : {A : Type 0} (test : A → Bool) (xs : List A) (x : A) → find test xs ≡ Some x → Has xs x × (test x ≡ true)
+found_passes test [] x e = absurd (not_None (sym e))
+found_passes test (y ∷ ys) x e = ⊎_elim
+    (λ t. let s = same_Some (sym (ap (λ b. cond b (Some y) (find test ys)) t) ∙ e) in (inl s, ap test (sym s) ∙ t))
+    (λ f. let r = found_passes test ys x (sym (ap (λ b. cond b (Some y) (find test ys)) f) ∙ e) in (inr r.0, r.1))
+    (cases_Bool (test y))
+
+pub passes_found : {A : Type 0} (test : A → Bool) (xs : List A) (x : A) → Has xs x → test x ≡ true → (y : A) × (find test xs ≡ Some y)
+passes_found test [] x h e = absurd h
+passes_found test (z ∷ zs) x h e = ⊎_elim
+    (λ t. (z, ap (λ b. cond b (Some z) (find test zs)) t))
+    (λ f.
+    let r = passes_found test zs x (⊎_elim (λ s. absurd (true≢false (sym e ∙ ap test (sym s) ∙ f))) (λ i. i) h) e in
+    (r.0, ap (λ b. cond b (Some z) (find test zs)) f ∙ r.1))
+    (cases_Bool (test z))
+
+-- ---- what a function gives of the items
+
+pub of_filter_map : {A B : Type 0} (f : A → Option B) (xs : List A) (y : B) → Has (filter_map f xs) y → (x : A) × Has xs x × (f x ≡ Some y)
+of_filter_map f [] y h = absurd h
+of_filter_map {A = A} {B = B} f (x ∷ xs) y h = go (f x) refl (λ i. of_filter_map f xs y i) h
+  where
+    go : (o : Option B) → f x ≡ o → (Has (filter_map f xs) y → (z : A) × Has xs z × (f z ≡ Some y)) → Has (cons_option o (filter_map f xs)) y → (z : A) × Has (x ∷ xs) z × (f z ≡ Some y)
+    go None e rest i = let r = rest i in (r.0, inr r.1, r.2)
+    go (Some z) e rest i = ⊎_elim (λ s. (x, inl refl, e ∙ ap Some s)) (λ k. let r = rest k in (r.0, inr r.1, r.2)) i
+
+pub in_filter_map : {A B : Type 0} (f : A → Option B) (xs : List A) (x : A) (y : B) → Has xs x → f x ≡ Some y → Has (filter_map f xs) y
+in_filter_map f [] x y h e = absurd h
+in_filter_map {B = B} f (z ∷ zs) x y h e = go (f z) refl (λ i. in_filter_map f zs x y i e) h
+  where
+    go : (o : Option B) → f z ≡ o → (Has zs x → Has (filter_map f zs) y) → Has (z ∷ zs) x → Has (cons_option o (filter_map f zs)) y
+    go None g rest i = ⊎_elim (λ s. absurd (not_None (sym e ∙ ap f (sym s) ∙ g))) (λ k. rest k) i
+    go (Some w) g rest i = ⊎_elim (λ s. inl (same_Some (sym g ∙ ap f s ∙ e))) (λ k. inr (rest k)) i

@@ -30,7 +30,7 @@ net_unknown kinds ties d n none = false_from_ne_true (has_net d n) (λ e. not_No
 
 -- ---- supplies
 
-abbrev supply_among : List NamedNet → Name → Option Bool
+abbrev pub supply_among : List NamedNet → Name → Option Bool
 supply_among ss q = first_some (map (λ s. supply_by s.usage) (filter (λ s. bytes_eq s.name q) ss))
 
 supply_among-append : (xs ys : List NamedNet) (q : Name) → supply_among (xs ++ ys) q ≡ option_or (supply_among xs q) (supply_among ys q)
@@ -100,6 +100,16 @@ module _ (d : NamedDesign) (joints : List NewJoint) (nets : List Name) where
       ∙ ap (option_or (supply_among specials q)) (supply_among-append plains fresh q ∙ ap (option_or (supply_among plains q)) (supply_fresh (fresh_nets d joints nets) q) ∙ or_none (supply_among plains q) ∙ supply_kept (issued false) (λ s. refl) (λ s. refl) d.nets q)
       ∙ ap (λ o. option_or o (supply_among d.nets q)) (supply_kept (issued true) (λ s. refl) (λ s. refl) d.special q)
       ∙ sym (supply_among-append d.special d.nets q)
+
+  -- a statement that makes its net a supply did so before
+  pub same_use : (s : NamedNet) (b : Bool) → Has (statements e) s → supply_by s.usage ≡ Some b → (z : NamedNet) × Has (statements d) z × (z.name ≡ s.name) × (supply_by z.usage ≡ Some b)
+  same_use s b h u = ⊎_elim
+      (λ a. let r = has_of_map (issued true) d.special s a in (r.0, has_append_left d.special d.nets r.0 r.1, ap (λ z. z.name) r.2, ap (λ z. supply_by z.usage) r.2 ∙ u))
+      (λ a. ⊎_elim
+      (λ i. let r = has_of_map (issued false) d.nets s i in (r.0, has_append_right d.special d.nets r.0 r.1, ap (λ z. z.name) r.2, ap (λ z. supply_by z.usage) r.2 ∙ u))
+      (λ i. let r = has_of_map fresh_net (fresh_nets d joints nets) s i in absurd (not_None (sym (ap (λ z. supply_by z.usage) r.2 ∙ u))))
+      (has_of_append (map (issued false) d.nets) fresh s a))
+      (has_of_append (map (issued true) d.special) (map (issued false) d.nets ++ fresh) s h)
 
   -- ---- which nets there are
 

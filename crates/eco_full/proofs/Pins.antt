@@ -19,7 +19,7 @@ use Rattle.eco_full.proofs.Statements.{has_of_append, names_new, same_test, of_b
 
 -- ---- the first statement that has a pin
 
-abbrev net_by : List NamedNet → Name → Name → Option Name
+abbrev pub net_by : List NamedNet → Name → Name → Option Name
 net_by ss c p = option_map (λ s. s.name) (find (has_joint c p) ss)
 
 net_by-append : (xs ys : List NamedNet) (c p : Name) → net_by (xs ++ ys) c p ≡ option_or (net_by xs c p) (net_by ys c p)
@@ -100,6 +100,16 @@ module _ (d : NamedDesign) (joints : List NewJoint) (nets : List Name) (c p : Na
         let q = has_of_map (λ name. let f : Fresh = record { name = name; joints = new_pins d joints name } in f) ordered r.0 r.1 in
         ap (has_joint c p) (sym r.2) ∙ ap (λ f. list_any (names_pin c p) f.joints) (sym q.2) ∙ none_new d joints q.0 c p none
 
+    -- a statement that has the pin had it before
+    pub had : (s : NamedNet) → Has (statements (issued_design (changes_of d joints nets) d)) s → has_joint c p s ≡ true → (z : NamedNet) × Has (statements d) z × (z.name ≡ s.name) × (has_joint c p z ≡ true)
+    had s h e = ⊎_elim
+        (λ a. let r = has_of_map (issued true) d.special s a in (r.0, has_append_left d.special d.nets r.0 r.1, ap (λ z. z.name) r.2, sym (same_joints true r.0) ∙ ap (has_joint c p) r.2 ∙ e))
+        (λ b. ⊎_elim
+        (λ a. let r = has_of_map (issued false) d.nets s a in (r.0, has_append_right d.special d.nets r.0 r.1, ap (λ z. z.name) r.2, sym (same_joints false r.0) ∙ ap (has_joint c p) r.2 ∙ e))
+        (λ a. absurd (true≢false (sym e ∙ none_fresh s a)))
+        (has_of_append (map (issued false) d.nets) fresh s b))
+        (has_of_append (map (issued true) d.special) (map (issued false) d.nets ++ fresh) s h)
+
     pub unmoved : net_of_pin (issued_design (changes_of d joints nets) d) c p ≡ net_of_pin d c p
     unmoved =
         let specials = map (issued true) d.special in
@@ -141,7 +151,7 @@ module _ (d : NamedDesign) (joints : List NewJoint) (nets : List Name) (c p : Na
         let q = has_of_map (λ name. let f : Fresh = record { name = name; joints = new_pins d joints name } in f) ordered r.0 r.1 in
         ap (λ z. z.name) (sym r.2) ∙ ap (λ z. z.name) (sym q.2) ∙ only_new q.0 (ap (λ f. list_any (names_pin c p) f.joints) q.2 ∙ ap (has_joint c p) r.2 ∙ e)
 
-    only : (s : NamedNet) → Has (statements (issued_design (changes_of d joints nets) d)) s → has_joint c p s ≡ true → s.name ≡ n.net
+    pub only : (s : NamedNet) → Has (statements (issued_design (changes_of d joints nets) d)) s → has_joint c p s ≡ true → s.name ≡ n.net
     only s h e = ⊎_elim
         (λ a. let r = has_of_map (issued true) d.special s a in ap (λ z. z.name) (sym r.2) ∙ only_issued true r.0 (ap (has_joint c p) r.2 ∙ e))
         (λ b. ⊎_elim

@@ -1,16 +1,24 @@
 -- What holds of the netlists of designs.
-use Rattle.std.specs.Prelude.{◌≡◌, List, []}
+use Rattle.std.specs.Prelude.{◌≡◌, ◌↔◌, List, [], Some}
+use Rattle.std.specs.List.{Contains}
+use Rattle.std.specs.FinMap.{get}
 use Rattle.eco_def.specs.Named.{NamedDesign}
 use Rattle.eco_issued.specs.Changes.{Changes, NewJoint, changes_of}
 use Rattle.eco_issued.specs.Issued.{issued_design}
-use Rattle.eco_net.specs.Netlist.{Name}
+use Rattle.eco_net.specs.Netlist.{Name, Component, Netlist, IsWhole}
 use Rattle.eco_full.specs.Netlists.{Kinds, netlist_of}
-use Rattle.eco_full.specs.Joints.{with_joints, CanJoin}
+use Rattle.eco_full.specs.Described.{AreWhole, IsConsistent, IsNetlistOf}
+use Rattle.eco_full.specs.Joints.{with_joints, IsRewired, OneNetEach, CanJoin}
+
+-- What with_joints gives is what it says, and nothing else is, where each pin is one of a component and is put on one net.
+abbrev pub RewiredIs : Type 0
+RewiredIs = (N : Netlist) (joints : List NewJoint) (new : List Name) → ((j : NewJoint) → Contains joints j → (x : Component) × (get N.comps j.comp ≡ Some x)) → OneNetEach joints →
+    (M : Netlist) → IsRewired N joints new M ↔ (M ≡ with_joints N joints new)
 
 -- The issued design has the netlist of the design with the new nets, and with the pins on their nets; all else is the same.
 abbrev pub IssuedIs : Type 0
-IssuedIs = (kinds : Kinds) (ties : List Name) (d : NamedDesign) (joints : List NewJoint) (nets : List Name) → CanJoin (netlist_of kinds ties d) joints nets →
-    netlist_of kinds ties (issued_design (changes_of d joints nets) d) ≡ with_joints (netlist_of kinds ties d) joints nets
+IssuedIs = (kinds : Kinds) (ties : List Name) (d : NamedDesign) (joints : List NewJoint) (new : List Name) → CanJoin (netlist_of kinds ties d) joints new →
+    netlist_of kinds ties (issued_design (changes_of d joints new) d) ≡ with_joints (netlist_of kinds ties d) joints new
 
 -- Issuing leaves the units, the components with their models and places, and the design's own pins as they are, in their order.
 abbrev pub ComponentsStay : Type 0
@@ -19,3 +27,16 @@ ComponentsStay = (c : Changes) (d : NamedDesign) → ((issued_design c d).units 
 -- where no pin moves and no net is new, the design is issued as it is
 abbrev pub NothingMoves : Type 0
 NothingMoves = (d : NamedDesign) → issued_design (changes_of d [] []) d ≡ d
+
+-- A consistent design has the netlist that its statements tell, and no other.
+abbrev pub NetlistIs : Type 0
+NetlistIs = (kinds : Kinds) (ties : List Name) (d : NamedDesign) → IsConsistent kinds d → (N : Netlist) → IsNetlistOf kinds ties d N ↔ (N ≡ netlist_of kinds ties d)
+
+-- The issued design is consistent too.
+abbrev pub StillConsistent : Type 0
+StillConsistent = (kinds : Kinds) (ties : List Name) (d : NamedDesign) (joints : List NewJoint) (new : List Name) → IsConsistent kinds d → CanJoin (netlist_of kinds ties d) joints new →
+    IsConsistent kinds (issued_design (changes_of d joints new) d)
+
+-- A design's netlist is whole: each pin that is on a net is a pin of its component, and each net that a pin is on is a net.
+abbrev pub NetlistWhole : Type 0
+NetlistWhole = (kinds : Kinds) (ties : List Name) (d : NamedDesign) → AreWhole kinds → IsWhole (netlist_of kinds ties d)

@@ -1,3 +1,4 @@
 pub mod Netlists
 pub mod Joints
+pub mod Described
 pub mod Laws

@@ -1,8 +1,36 @@
-ghost use Rattle.eco_full.specs.Laws.{ComponentsStay, IssuedIs, NothingMoves};
+ghost use Rattle.eco_full.specs.Laws.{
+  ComponentsStay,
+  IssuedIs,
+  NetlistIs,
+  NetlistWhole,
+  NothingMoves,
+  RewiredIs,
+  StillConsistent,
+};
+
+/// A law: a consistent design has the netlist that its statements tell, and no other.
+pub fn netlist_is()
+    ensures { NetlistIs }
+{}
+
+/// A law: the netlist of a design is whole.
+pub fn netlist_whole()
+    ensures { NetlistWhole }
+{}
+
+/// A law: where pins are put on nets, those pins are on those nets, and all else is as it was.
+pub fn rewired_is()
+    ensures { RewiredIs }
+{}
 
 /// A law: the issued design has the netlist of the design with the new nets, and with the pins on their nets.
 pub fn issued_is()
     ensures { IssuedIs }
+{}
+
+/// A law: the issued design is consistent where the design is.
+pub fn still_consistent()
+    ensures { StillConsistent }
 {}
 
 /// A law: issuing leaves the components with their models and places, and the design's own pins, as they are.

@@ -5,4 +5,7 @@
 
 mod laws;
 
-pub use crate::laws::{components_stay, issued_is, nothing_moves};
+pub use crate::laws::{
+    components_stay, issued_is, netlist_is, netlist_whole, nothing_moves, rewired_is,
+    still_consistent,
+};
