@@ -1,5 +1,5 @@
 -- An issued design is consistent where the design is, and a design's netlist is whole.
-use Rattle.std.proofs.Common.{◌≡◌, Bool, List, Some, sym, ap, ◌∙◌, subst, ⊎_elim, map}
+use Rattle.std.proofs.Common.{refl, false, Option, None, Some, ◌≡◌, Bool, List, sym, ap, ◌∙◌, subst, ⊎_elim, map}
 use Rattle.std.specs.List.{IsDistinct}
 use Rattle.std.specs.Ordering.{eq_by_cmp}
 use Rattle.std.specs.FinMap.{get}
@@ -7,17 +7,19 @@ use Rattle.std.specs.List.{list_any}
 use Rattle.std.specs.Str.{bytes_eq}
 use Rattle.std.proofs.lemmas.Bool.{or_left, or_right}
 use Rattle.eco_def.specs.Named.{NamedDesign}
-use Rattle.eco_issued.specs.Changes.{NewJoint, has_statement, changes_of}
+use Rattle.eco_issued.specs.Changes.{NewJoint, is_no_component, has_statement, changes_of}
 use Rattle.eco_issued.specs.Issued.{issued_design}
 use Rattle.eco_net.specs.Netlist.{Name, name_cmp, Component, Top, Netlist, IsNet, IsPin, IsWhole, HasRows, pins_of}
-use Rattle.eco_net.proofs.Basics.{Has, contains_from_has, has_from_contains}
-use Rattle.eco_full.specs.Netlists.{Kinds, statements, netlist_of}
+use Rattle.eco_net.specs.Drivers.{joined_at}
+use Rattle.eco_net.proofs.Basics.{Has, contains_from_has, has_from_contains, not_None}
+use Rattle.eco_full.specs.Netlists.{Kinds, names_pin, statements, netlist_of}
 use Rattle.eco_full.specs.Described.{AreWhole, IsOn, IsSupply, IsConsistent}
 use Rattle.eco_full.specs.Joints.{CanJoin}
-use Rattle.eco_full.specs.Laws.{StillConsistent, NetlistWhole}
+use Rattle.eco_full.specs.Laws.{StillConsistent, NetlistWhole, NoneUnnamed}
 use Rattle.eco_full.proofs.Names.{is_name}
-use Rattle.eco_full.proofs.Members.{has_any}
+use Rattle.eco_full.proofs.Members.{any_has, has_any}
 use Rattle.eco_full.proofs.Joining.{IsFor, for_some}
+use Rattle.eco_full.proofs.Statements.{names_parts}
 use Rattle.eco_full.proofs.Pins.{only, had}
 use Rattle.eco_full.proofs.Nets.{same_use, known_net}
 use Rattle.eco_full.proofs.Found.{comp_said, top_said, on_statement, statement_on}
@@ -48,8 +50,7 @@ module _ (kinds : Kinds) (ties : List Name) (d : NamedDesign) (joints : List New
 
   consistent : IsConsistent kinds e
   consistent = record {
-    comps = is.comps;
-    tops = is.tops;
+    once = record { comps = is.once.comps; tops = is.once.tops };
     one_net = λ a k p n m h known pin on also. ⊎_elim
         (λ r. on_its_net a.name p n r.0 r.1 (r.2, r.3) on ∙ sym (on_its_net a.name p m r.0 r.1 (r.2, r.3) also))
         (λ none. is.one_net a k p n m h known pin (on_its_old a.name p n none on) (on_its_old a.name p m none also))
@@ -88,3 +89,18 @@ module _ (kinds : Kinds) (ties : List Name) (d : NamedDesign) (each : AreWhole k
 
 pub netlist_whole : NetlistWhole
 netlist_whole kinds ties d each = whole kinds ties d each
+
+-- ---- components that no joint can name
+
+pub none_unnamed : NoneUnnamed
+none_unnamed kinds ties d c p n e = go (get (netlist_of kinds ties d).comps c) refl e
+  where
+    go : (o : Option Component) → get (netlist_of kinds ties d).comps c ≡ o → joined_at o p ≡ Some n → is_no_component c ≡ false
+    go None f g = absurd (not_None (sym g))
+    go (Some x) f g =
+        let y = comp_said kinds ties d c x f in
+        let r = pin_said d y.0.0 y.0.1 p n (ap (λ z. get z.joined p) y.4 ∙ g) in
+        let s = on_statement d y.0.0.name p n r.1 in
+        let j = any_has (names_pin y.0.0.name p) s.0.joints s.3 in
+        let named = names_parts y.0.0.name p j.0 j.2 in
+        ap is_no_component (sym y.2 ∙ named.1) ∙ named.0

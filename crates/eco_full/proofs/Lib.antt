@@ -10,5 +10,6 @@ pub mod Found
 pub mod Rewiring
 pub mod Telling
 pub mod Keeping
+pub mod ReadOnce
 pub mod Unchanged
 mod Examples

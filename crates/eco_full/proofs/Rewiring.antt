@@ -1,18 +1,18 @@
 -- What with_joints gives, and that nothing else is.
-use Rattle.std.proofs.Common.{◌≡◌, true, false, cond, List, Option, Some, None, refl, sym, ap, ◌∙◌, subst, inl, inr, ⊎_elim, ◌⊎◌, true≢false}
-use Rattle.std.specs.List.{list_any, Contains}
+use Rattle.std.proofs.Common.{Bool, ◌∷◌, [], ◌≡◌, true, false, cond, ◌&&◌, List, Option, Some, None, refl, sym, ap, ◌∙◌, subst, inl, inr, ⊎_elim, ◌⊎◌, true≢false}
+use Rattle.std.specs.List.{list_any, Contains, IsDistinct, AllByRecursion}
 use Rattle.std.specs.Option.{option_map}
 use Rattle.std.specs.Str.{bytes_eq}
 use Rattle.std.specs.Cmp.Lexicographic.{nat_list_cmp_total}
 use Rattle.std.specs.FinMap.{get, same_map}
-use Rattle.std.proofs.lemmas.Bool.{cases_Bool, false_from_ne_true}
+use Rattle.std.proofs.lemmas.Bool.{cases_Bool, and_from, false_from_ne_true}
 use Rattle.std.proofs.lemmas.Map.Lookups.{exact_bytes}
 use Rattle.eco_issued.specs.Changes.{NewJoint}
 use Rattle.eco_net.specs.Netlist.{Name, Component, Netlist, CompPin}
 use Rattle.eco_net.specs.Drivers.{net_of, joined_at}
 use Rattle.eco_net.proofs.Basics.{Has, contains_from_has, has_from_contains, same_Some, not_None}
 use Rattle.eco_full.specs.Joints.{with_joints, frame, IsRewired, OneNetEach}
-use Rattle.eco_full.specs.Laws.{RewiredIs}
+use Rattle.eco_full.specs.Laws.{ApartIs, RewiredIs}
 use Rattle.eco_full.proofs.Names.{same_name, is_name}
 use Rattle.eco_full.proofs.Members.{any_has, has_any}
 use Rattle.eco_full.proofs.Lookups.{same_netlist}
@@ -105,3 +105,24 @@ pub rewired_is : RewiredIs
 rewired_is N joints new on_comps one M =
     let w = its_wires N joints new one on_comps in
     (λ m. wires_alike N joints new one M (with_joints N joints new) m w, λ e. subst (IsRewired N joints new) (sym e) w)
+
+-- ---- joints of distinct pins
+
+abbrev same_pin : NewJoint → NewJoint → Bool
+same_pin j k = bytes_eq j.comp k.comp && bytes_eq j.pin k.pin
+
+none_after : (j : NewJoint) (ks : List NewJoint) (k : NewJoint) → AllByRecursion (λ k. same_pin j k ≡ false) ks → Has ks k → same_pin j k ≡ false
+none_after j (y ∷ ks) k all (inl s) = ap (same_pin j) (sym s) ∙ all.0
+none_after j (y ∷ ks) k all (inr h) = none_after j ks k all.1 h
+none_after j [] k all h = absurd h
+
+one_joint : (js : List NewJoint) → IsDistinct same_pin js → (j k : NewJoint) → Has js j → Has js k → j.comp ≡ k.comp → j.pin ≡ k.pin → j ≡ k
+unfolding IsDistinct
+one_joint [] apart j k h i e f = absurd h
+one_joint (x ∷ js) apart j k (inl s) (inl t) e f = sym s ∙ t
+one_joint (x ∷ js) apart j k (inl s) (inr i) e f = absurd (true≢false (sym (and_from (bytes_eq x.comp k.comp) (bytes_eq x.pin k.pin) (is_name x.comp k.comp (ap (λ z. z.comp) s ∙ e)) (is_name x.pin k.pin (ap (λ z. z.pin) s ∙ f))) ∙ none_after x js k apart.0 i))
+one_joint (x ∷ js) apart j k (inr h) (inl t) e f = absurd (true≢false (sym (and_from (bytes_eq x.comp j.comp) (bytes_eq x.pin j.pin) (is_name x.comp j.comp (ap (λ z. z.comp) t ∙ sym e)) (is_name x.pin j.pin (ap (λ z. z.pin) t ∙ sym f))) ∙ none_after x js j apart.0 h))
+one_joint (x ∷ js) apart j k (inr h) (inr i) e f = one_joint js apart.1 j k h i e f
+
+pub apart_is : ApartIs
+apart_is joints apart j k h i e f = ap (λ z. z.net) (one_joint joints apart j k (has_from_contains joints j h) (has_from_contains joints k i) e f)

@@ -60,7 +60,7 @@ module _ (kinds : Kinds) (ties : List Name) (d : NamedDesign) (is : IsConsistent
     λ e. let r = top_said kinds ties d t x e in (r.0, contains_from_has d.pins r.0 r.1, r.2, r.3, r.4),
     λ r.
         let q = said_top kinds ties d r.0 (has_from_contains d.pins r.0 r.1) r.2 in
-        let same : q.0 ≡ r.0 = is.tops q.0 r.0 (contains_from_has d.pins q.0 q.1) r.1 q.2 in
+        let same : q.0 ≡ r.0 = is.once.tops q.0 r.0 (contains_from_has d.pins q.0 q.1) r.1 q.2 in
         ap (get N.tops) (sym r.3) ∙ q.3 ∙ ap (λ p. Some (top_of p)) same ∙ ap Some r.4,
   )
 
@@ -114,7 +114,7 @@ module _ (kinds : Kinds) (ties : List Name) (d : NamedDesign) (is : IsConsistent
       same x y e f =
           let a = m.comps c x e in
           let b = n.comps c y f in
-          let one : a.0 ≡ b.0 = is.comps a.0 b.0 a.1 b.1 (a.2 ∙ sym b.2) in
+          let one : a.0 ≡ b.0 = is.once.comps a.0 b.0 a.1 b.1 (a.2 ∙ sym b.2) in
           let kind : x.kind ≡ y.kind = same_Some (sym a.3 ∙ ap (λ z. kinds z.model) one ∙ b.3) in
           let place : x.place ≡ y.place = a.4 ∙ ap (λ z. option_map (λ p. p.point) z.place) one ∙ sym b.4 in
           let role : (p : Name) → fin.find name_cmp p (pins_of x.kind) ≡ fin.find name_cmp p (pins_of y.kind) = λ p. ap (λ k. fin.find name_cmp p (pins_of k)) kind in

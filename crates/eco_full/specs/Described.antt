@@ -23,11 +23,14 @@ IsOn d c p n = stands (statements d) (record { comp = c; pin = p; net = n }) ≡
 abbrev pub IsSupply : NamedDesign → Name → Bool → Type 0
 IsSupply d n b = (s : NamedNet) × Contains (statements d) s × (s.name ≡ n) × (supply_by s.usage ≡ Some b)
 
--- Components of one name are one, and so are top pins. No pin stands on two nets, supply pins aside, and no net is a supply
--- of two values.
-pub record IsConsistent (kinds : Kinds) (d : NamedDesign) : Type 0 where
+-- components of one name are one, and so are top pins
+pub record NamesOnce (d : NamedDesign) : Type 0 where
   pub comps : (a b : NamedComp) → Contains d.comps a → Contains d.comps b → a.name ≡ b.name → a ≡ b
   pub tops : (p q : NamedPin) → Contains d.pins p → Contains d.pins q → p.name ≡ q.name → p ≡ q
+
+-- Each name stands once. No pin stands on two nets, supply pins aside, and no net is a supply of two values.
+pub record IsConsistent (kinds : Kinds) (d : NamedDesign) : Type 0 where
+  pub once : NamesOnce d
   pub one_net : (a : NamedComp) (k : Kind) (p n m : Name) → Contains d.comps a → kinds a.model ≡ Some k → Contains (pin_names k) p → IsOn d a.name p n → IsOn d a.name p m → n ≡ m
   pub supplies : (n : Name) (a b : Bool) → IsSupply d n a → IsSupply d n b → a ≡ b
 

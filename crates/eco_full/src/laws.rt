@@ -1,12 +1,20 @@
 ghost use Rattle.eco_full.specs.Laws.{
+  ApartIs,
   ComponentsStay,
   IssuedIs,
   NetlistIs,
   NetlistWhole,
+  NoneUnnamed,
   NothingMoves,
+  ReadOnce,
   RewiredIs,
   StillConsistent,
 };
+
+/// A law: in a design that was read each component and each top pin is named once.
+pub fn read_once()
+    ensures { ReadOnce }
+{}
 
 /// A law: a consistent design has the netlist that its statements tell, and no other.
 pub fn netlist_is()
@@ -16,6 +24,16 @@ pub fn netlist_is()
 /// A law: the netlist of a design is whole.
 pub fn netlist_whole()
     ensures { NetlistWhole }
+{}
+
+/// A law: a component that is named `PIN` or `*` has no pin on a net, since no joint can name it.
+pub fn none_unnamed()
+    ensures { NoneUnnamed }
+{}
+
+/// A law: joints of distinct pins put no pin on two nets.
+pub fn apart_is()
+    ensures { ApartIs }
 {}
 
 /// A law: where pins are put on nets, those pins are on those nets, and all else is as it was.
