@@ -10,6 +10,7 @@ pub mod Found
 pub mod Rewiring
 pub mod Telling
 pub mod Keeping
+pub mod Joinable
 pub mod ReadOnce
 pub mod Unchanged
 mod Examples

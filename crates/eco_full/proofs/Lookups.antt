@@ -53,7 +53,7 @@ found_joined d c (q ∷ ps) p = go (net_of_pin d c q) refl (bytes_eq q p) refl (
     go (Some n) e true s rest = ap (λ b. cond b (Some n) (fin.find name_cmp p (joined_in d c ps))) (by_bytes_turned p q ∙ s) ∙ sym e ∙ ap (net_of_pin d c) (same_name q p s)
     go (Some n) e false s rest = ap (λ b. cond b (Some n) (fin.find name_cmp p (joined_in d c ps))) (by_bytes_turned p q ∙ s) ∙ rest
 
-named_pin : {X : Type 0} (es : List (Name × X)) (p : Name) → list_any (λ q. bytes_eq q p) (map (λ e. e.0) es) ≡ is_some (fin.find name_cmp p es)
+pub named_pin : {X : Type 0} (es : List (Name × X)) (p : Name) → list_any (λ q. bytes_eq q p) (map (λ e. e.0) es) ≡ is_some (fin.find name_cmp p es)
 named_pin [] p = refl
 named_pin (e ∷ es) p = go (bytes_eq e.0 p) refl (named_pin es p)
   where

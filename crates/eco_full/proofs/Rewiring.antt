@@ -19,7 +19,7 @@ use Rattle.eco_full.proofs.Lookups.{same_netlist}
 use Rattle.eco_full.proofs.Joining.{for_some, new_nets, each_pin, with_pins, gets_joined, stays_joined}
 
 -- whether a name is among these
-among : (ns : List Name) (n : Name) → (Has ns n × (list_any (λ m. bytes_eq m n) ns ≡ true)) ⊎ ((Has ns n → ⊥) × (list_any (λ m. bytes_eq m n) ns ≡ false))
+pub among : (ns : List Name) (n : Name) → (Has ns n × (list_any (λ m. bytes_eq m n) ns ≡ true)) ⊎ ((Has ns n → ⊥) × (list_any (λ m. bytes_eq m n) ns ≡ false))
 among ns n = ⊎_elim
     (λ t. let r = any_has (λ m. bytes_eq m n) ns t in inl (subst (Has ns) (same_name r.0 n r.2) r.1, t))
     (λ f. inr (λ h. true≢false (sym (has_any (λ m. bytes_eq m n) ns n h (is_name n n refl)) ∙ f), f))

@@ -1,15 +1,16 @@
 -- The netlist of a design, told by what its statements say (LEF/DEF 5.8 Language Reference, "Components", "Pins", "Nets",
 -- "Special Nets").
-use Rattle.std.specs.Prelude.{◌≡◌, ◌↔◌, Bool, true, false, List, Some}
+use Rattle.std.specs.Prelude.{◌≡◌, ◌↔◌, ◌⊎◌, Bool, true, false, List, Some}
 use Rattle.std.specs.List.{Contains, IsDistinct}
 use Rattle.std.specs.Option.{option_map}
 use Rattle.std.specs.Ordering.{eq_by_cmp}
 use Rattle.std.specs.FinMap.{get}
 use Rattle.std.specs.FinSet.{from_list, empty}
 use Rattle.eco_def.specs.Named.{NamedComp, NamedPin, NamedNet, NamedDesign}
-use Rattle.eco_issued.specs.Changes.{stands}
+use Rattle.eco_issued.specs.Changes.{NewJoint, is_no_component, stands}
 use Rattle.eco_net.specs.Netlist.{Name, name_cmp, Kind, Component, Top, Netlist, IsNet, IsPin, HasRows}
 use Rattle.eco_full.specs.Netlists.{Kinds, statements, has_net, supply_by, pin_names, top_of}
+use Rattle.eco_full.specs.Joints.{OneNetEach}
 
 -- a kind's pins have distinct names, and its tables have their rows
 abbrev pub AreWhole : Kinds → Type 0
@@ -46,3 +47,12 @@ pub record IsNetlistOf (kinds : Kinds) (ties : List Name) (d : NamedDesign) (N :
   pub tops : (t : Name) (x : Top) → (get N.tops t ≡ Some x) ↔ ((p : NamedPin) × Contains d.pins p × (p.supply ≡ false) × (p.name ≡ t) × (top_of p ≡ x))
   pub tied : N.ties ≡ from_list ties
   pub reserved : N.reserved ≡ empty
+
+-- The pins are those of components of the design whose macros are known, PIN and * aside, and none is put on two nets. Each
+-- net is one of the design or new, and the new ones aren't in it.
+pub record CanJoinIn (kinds : Kinds) (d : NamedDesign) (joints : List NewJoint) (new : List Name) : Type 0 where
+  pub pins : (j : NewJoint) → Contains joints j → (a : NamedComp) × (k : Kind) × Contains d.comps a × (a.name ≡ j.comp) × (kinds a.model ≡ Some k) × Contains (pin_names k) j.pin
+  pub named : (j : NewJoint) → Contains joints j → is_no_component j.comp ≡ false
+  pub one_net : OneNetEach joints
+  pub known : (j : NewJoint) → Contains joints j → (has_net d j.net ≡ true) ⊎ Contains new j.net
+  pub unknown : (n : Name) → Contains new n → has_net d n ≡ false

@@ -22,7 +22,7 @@ abbrev pub put_joints : FinMap name_cmp Component → List NewJoint → FinMap n
 put_joints m [] = m
 put_joints m (j ∷ js) = put_on (put_joints m js) j (get (put_joints m js) j.comp)
 
--- the netlist with these new nets and with these pins on their nets
+-- The netlist with these new nets and with these pins on their nets. IsRewired tells the same in words.
 abbrev pub with_joints : Netlist → List NewJoint → List Name → Netlist
 with_joints N joints nets = record N { nets = with_nets N.nets nets; comps = put_joints N.comps joints }
 

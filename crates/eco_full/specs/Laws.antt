@@ -11,13 +11,17 @@ use Rattle.eco_issued.specs.Issued.{issued_design}
 use Rattle.eco_net.specs.Netlist.{Name, Component, Netlist, CompPin, IsWhole}
 use Rattle.eco_net.specs.Drivers.{net_of}
 use Rattle.eco_full.specs.Netlists.{Kinds, netlist_of}
-use Rattle.eco_full.specs.Described.{AreWhole, NamesOnce, IsConsistent, IsNetlistOf}
+use Rattle.eco_full.specs.Described.{AreWhole, NamesOnce, IsConsistent, IsNetlistOf, CanJoinIn}
 use Rattle.eco_full.specs.Joints.{with_joints, IsRewired, OneNetEach, CanJoin}
 
 -- What with_joints gives is what it says, and nothing else is, where each pin is one of a component and is put on one net.
 abbrev pub RewiredIs : Type 0
 RewiredIs = (N : Netlist) (joints : List NewJoint) (new : List Name) → ((j : NewJoint) → Contains joints j → (x : Component) × (get N.comps j.comp ≡ Some x)) → OneNetEach joints →
     (M : Netlist) → IsRewired N joints new M ↔ (M ≡ with_joints N joints new)
+
+-- A whole netlist stays whole.
+abbrev pub StillWhole : Type 0
+StillWhole = (N : Netlist) (joints : List NewJoint) (new : List Name) → IsWhole N → CanJoin N joints new → IsWhole (with_joints N joints new)
 
 -- joints of distinct pins put no pin on two nets
 abbrev pub ApartIs : Type 0
@@ -26,6 +30,10 @@ ApartIs = (joints : List NewJoint) → IsDistinct (λ j k. bytes_eq j.comp k.com
 -- A component that is named PIN or * has no pin on a net, since no joint can name it.
 abbrev pub NoneUnnamed : Type 0
 NoneUnnamed = (kinds : Kinds) (ties : List Name) (d : NamedDesign) (c p n : Name) → net_of (netlist_of kinds ties d) (CompPin c p) ≡ Some n → is_no_component c ≡ false
+
+-- What can be joined in a design can be joined in its netlist, and nothing else can.
+abbrev pub CanJoinIs : Type 0
+CanJoinIs = (kinds : Kinds) (ties : List Name) (d : NamedDesign) (joints : List NewJoint) (new : List Name) → NamesOnce d → CanJoinIn kinds d joints new ↔ CanJoin (netlist_of kinds ties d) joints new
 
 -- The issued design has the netlist of the design with the new nets, and with the pins on their nets; all else is the same.
 abbrev pub IssuedIs : Type 0

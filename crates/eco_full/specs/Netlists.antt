@@ -78,7 +78,7 @@ abbrev pub nets_in : NamedDesign → List (Name × Option Bool)
 nets_in d = map (λ n. (n, supply_in d n)) (map (λ s. s.name) (statements d) ++ map (λ p. p.net) d.pins)
 
 -- The netlist of a design, by what its macros' names stand for and by the names of the tie nets. Supply pins are in no
--- netlist, those of the design no more than those of components; their nets are.
+-- netlist, those of the design no more than those of components; their nets are. IsNetlistOf tells the same in words.
 abbrev pub netlist_of : Kinds → List Name → NamedDesign → Netlist
 netlist_of kinds ties d = record {
   nets = from_entries (nets_in d);

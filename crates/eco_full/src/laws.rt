@@ -1,5 +1,6 @@
 ghost use Rattle.eco_full.specs.Laws.{
   ApartIs,
+  CanJoinIs,
   ComponentsStay,
   IssuedIs,
   NetlistIs,
@@ -9,6 +10,7 @@ ghost use Rattle.eco_full.specs.Laws.{
   ReadOnce,
   RewiredIs,
   StillConsistent,
+  StillWhole,
 };
 
 /// A law: in a design that was read each component and each top pin is named once.
@@ -39,6 +41,16 @@ pub fn apart_is()
 /// A law: where pins are put on nets, those pins are on those nets, and all else is as it was.
 pub fn rewired_is()
     ensures { RewiredIs }
+{}
+
+/// A law: a whole netlist stays whole where pins are put on nets.
+pub fn still_whole()
+    ensures { StillWhole }
+{}
+
+/// A law: what can be joined in a design can be joined in its netlist, and nothing else can.
+pub fn can_join_is()
+    ensures { CanJoinIs }
 {}
 
 /// A law: the issued design has the netlist of the design with the new nets, and with the pins on their nets.

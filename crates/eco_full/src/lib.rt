@@ -6,6 +6,6 @@
 mod laws;
 
 pub use crate::laws::{
-    apart_is, components_stay, issued_is, netlist_is, netlist_whole, none_unnamed, nothing_moves,
-    read_once, rewired_is, still_consistent,
+    apart_is, can_join_is, components_stay, issued_is, netlist_is, netlist_whole, none_unnamed,
+    nothing_moves, read_once, rewired_is, still_consistent, still_whole,
 };
