@@ -1,10 +1,10 @@
 -- The netlist of a small design, and of the design where one of its spares has become a gate, by computing the definitions.
-use Rattle.std.proofs.Common.{◌≡◌, Bool, true, false, not, ◌&&◌, ◌||◌, List, [], ◌∷◌, Option, Some, None, refl, sym, ap, ◌∙◌, subst, inl, inr, ⊎_elim, ◌⊎◌, codes, pos, if◌then◌else◌, true≢false}
-use Rattle.std.specs.List.{list_all, Contains}
+use Rattle.std.proofs.Common.{◌≡◌, Bool, true, false, not, ◌&&◌, ◌||◌, map, List, [], ◌∷◌, Option, Some, None, refl, sym, ap, ◌∙◌, subst, inl, inr, ⊎_elim, ◌⊎◌, codes, pos, if◌then◌else◌, true≢false}
+use Rattle.std.specs.List.{list_all, list_any, Contains}
 use Rattle.std.specs.Str.{bytes_eq}
 use Rattle.std.specs.FinMap.{get, from_entries}
 use Rattle.std.specs.FinSet.{from_list, empty}
-use Rattle.std.proofs.lemmas.Bool.{and_from, or_cases}
+use Rattle.std.proofs.lemmas.Bool.{and_parts, and_from, or_cases}
 use Rattle.eco_text.specs.declared.geometry.Dir.{Dir}
 use Rattle.eco_text.specs.declared.geometry.Dir.TheVariants.{Input, Output, Inout}
 use Rattle.eco_text.specs.declared.geometry.Point.{Point}
@@ -13,11 +13,14 @@ use Rattle.eco_def.specs.Named.{NamedComp, NamedPin, NamedJoint, NamedNet, Named
 use Rattle.eco_issued.specs.Changes.{NewJoint, is_no_component, changes_of}
 use Rattle.eco_issued.specs.Issued.{issued_design}
 use Rattle.eco_net.specs.Netlist.{Name, Kind, Gate, Boxed, Component, Netlist, Role, Reads, Computes, role_of, IsNet, IsPin}
-use Rattle.eco_net.proofs.Basics.{Has, contains_from_has, has_from_contains}
-use Rattle.eco_full.specs.Netlists.{Kinds, netlist_of}
+use Rattle.eco_net.proofs.Basics.{Has, contains_from_has, has_from_contains, has_map, same_Some}
+use Rattle.eco_full.specs.Netlists.{Kinds, statements, names_pin, supply_by, netlist_of}
+use Rattle.eco_full.specs.Described.{IsOn, IsSupply, IsConsistent}
 use Rattle.eco_full.specs.Joints.{with_joints, OneNetEach, CanJoin}
 use Rattle.eco_full.proofs.Names.{same_name, is_name}
-use Rattle.eco_full.proofs.Members.{all_has}
+use Rattle.eco_full.proofs.Members.{all_has, any_has, has_any}
+use Rattle.eco_full.proofs.Statements.{names_parts}
+use Rattle.eco_full.proofs.Found.{on_statement}
 use Rattle.eco_full.proofs.Lookups.{comp_is, net_is}
 use Rattle.eco_full.proofs.Nets.{known_net}
 use Rattle.eco_full.proofs.Issuing.{issued_is}
@@ -241,3 +244,65 @@ register_joints : issued_design (changes_of r (on (codes "r1") (codes "CK") (cod
       ∷ [];
 }
 register_joints = refl
+
+-- ---- the first design is consistent
+
+-- names that a test finds once stand once
+abbrev once : List Name → Bool
+once [] = true
+once (n ∷ ns) = not (list_any (λ m. bytes_eq n m) ns) && once ns
+
+once_each : {A : Type 0} (name : A → Name) (xs : List A) → once (map name xs) ≡ true → (a b : A) → Has xs a → Has xs b → name a ≡ name b → a ≡ b
+once_each name [] e a b h i s = absurd h
+once_each name (x ∷ xs) e a b h i s =
+    let r = and_parts (not (list_any (λ m. bytes_eq (name x) m) (map name xs))) (once (map name xs)) e in
+    ⊎_elim
+    (λ p. ⊎_elim (λ q. sym p ∙ q) (λ q. absurd (other b q (ap name p ∙ s) r.0)) i)
+    (λ p. ⊎_elim (λ q. absurd (other a p (ap name q ∙ sym s) r.0)) (λ q. once_each name xs r.1 a b p q s) i)
+    h
+  where
+    other : (y : _) → Has xs y → name x ≡ name y → not (list_any (λ m. bytes_eq (name x) m) (map name xs)) ≡ true → ⊥
+    other y h f g = true≢false (sym g ∙ ap not (has_any (λ m. bytes_eq (name x) m) (map name xs) (name y) (has_map name xs y h) (is_name (name x) (name y) f)))
+
+-- of each two statements that have a joint of one pin, or a use that makes a supply, the nets and values are one
+abbrev same_joint : NamedJoint → NamedJoint → Bool
+same_joint j k = bytes_eq j.comp k.comp && bytes_eq j.pin k.pin
+
+abbrev joints_apart : NamedNet → NamedNet → Bool
+joints_apart s t = list_all (λ j. list_all (λ k. not (same_joint j k) || bytes_eq s.name t.name) t.joints) s.joints
+
+abbrev all_apart : List NamedNet → Bool
+all_apart ss = list_all (λ s. list_all (joints_apart s) ss) ss
+
+one_net_in : (d : NamedDesign) → all_apart (statements d) ≡ true → (c p n m : Name) → IsOn d c p n → IsOn d c p m → n ≡ m
+one_net_in d e c p n m on also =
+    let s = on_statement d c p n on in
+    let t = on_statement d c p m also in
+    let j = any_has (names_pin c p) s.0.joints s.3 in
+    let k = any_has (names_pin c p) t.0.joints t.3 in
+    let a = names_parts c p j.0 j.2 in
+    let b = names_parts c p k.0 k.2 in
+    let row = all_has (λ s. list_all (joints_apart s) (statements d)) (statements d) s.0 e s.1 in
+    let pair = all_has (joints_apart s.0) (statements d) t.0 row t.1 in
+    let here = all_has (λ j. list_all (λ k. not (same_joint j k) || bytes_eq s.0.name t.0.name) t.0.joints) s.0.joints j.0 pair j.1 in
+    let cell = all_has (λ k. not (same_joint j.0 k) || bytes_eq s.0.name t.0.name) t.0.joints k.0 here k.1 in
+    let same : same_joint j.0 k.0 ≡ true = and_from (bytes_eq j.0.comp k.0.comp) (bytes_eq j.0.pin k.0.pin) (is_name j.0.comp k.0.comp (sym a.1 ∙ b.1)) (is_name j.0.pin k.0.pin (sym a.2 ∙ b.2)) in
+    sym s.2
+    ∙ ⊎_elim (λ f. absurd (true≢false (sym f ∙ ap not same))) (λ f. same_name s.0.name t.0.name f) (or_cases (not (same_joint j.0 k.0)) (bytes_eq s.0.name t.0.name) cell)
+    ∙ t.2
+
+-- a net that has one statement has one value
+one_value : (d : NamedDesign) → once (map (λ s. s.name) (statements d)) ≡ true → (n : Name) (a b : Bool) → IsSupply d n a → IsSupply d n b → a ≡ b
+one_value d e n a b s t =
+    let one : s.0 ≡ t.0 = once_each (λ s. s.name) (statements d) e s.0 t.0 (has_from_contains (statements d) s.0 s.1) (has_from_contains (statements d) t.0 t.1) (s.2 ∙ sym t.2) in
+    same_Some (sym s.3 ∙ ap (λ z. supply_by z.usage) one ∙ t.3)
+
+consistent : IsConsistent kinds d
+consistent = record {
+  once = record {
+    comps = λ a b h i s. once_each (λ c. c.name) d.comps refl a b (has_from_contains d.comps a h) (has_from_contains d.comps b i) s;
+    tops = λ p q h i s. once_each (λ p. p.name) d.pins refl p q (has_from_contains d.pins p h) (has_from_contains d.pins q i) s;
+  };
+  one_net = λ a k p n m h known pin on also. one_net_in d refl a.name p n m on also;
+  supplies = one_value d refl;
+}

@@ -1,5 +1,5 @@
 -- What stands in a list that is made from others.
-use Rattle.std.proofs.Common.{◌≡◌, Bool, true, false, cond, not, List, [], ◌∷◌, Option, Some, None, refl, sym, ap, ◌∙◌, inl, inr, ⊎_elim, ◌⊎◌, if◌then◌else◌, true≢false, filter}
+use Rattle.std.proofs.Common.{◌≡◌, Bool, true, false, cond, not, List, [], ◌∷◌, ◌++◌, Option, Some, None, refl, sym, ap, ◌∙◌, inl, inr, ⊎_elim, ◌⊎◌, if◌then◌else◌, true≢false, filter}
 use Rattle.std.specs.List.{list_any, list_all, find, filter_map, cons_option}
 use Rattle.std.specs.Str.{bytes_eq}
 use Rattle.std.proofs.lemmas.Bool.{cases_Bool, or_cases, or_left, or_right, and_parts, and_from}
@@ -27,6 +27,13 @@ all_has test (y ∷ ys) x e (inr h) = all_has test ys x (and_parts (test y) (lis
 pub has_all : {A : Type 0} (test : A → Bool) (xs : List A) → ((x : A) → Has xs x → test x ≡ true) → list_all test xs ≡ true
 has_all test [] each = refl
 has_all test (x ∷ xs) each = and_from (test x) (list_all test xs) (each x (inl refl)) (has_all test xs (λ y h. each y (inr h)))
+
+-- ---- lists one after another
+
+pub has_of_append : {A : Type 0} (xs ys : List A) (z : A) → Has (xs ++ ys) z → Has xs z ⊎ Has ys z
+has_of_append [] ys z h = inr h
+has_of_append (x ∷ xs) ys z (inl e) = inl (inl e)
+has_of_append (x ∷ xs) ys z (inr h) = ⊎_elim (λ i. inl (inr i)) (λ i. inr i) (has_of_append xs ys z h)
 
 -- ---- filtered lists
 

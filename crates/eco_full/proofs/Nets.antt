@@ -12,10 +12,9 @@ use Rattle.eco_issued.specs.Issued.{issued_net, fresh_net, issued_design}
 use Rattle.eco_net.specs.Netlist.{Name, IsNet}
 use Rattle.eco_net.proofs.Basics.{Has, has_map, has_of_map, has_append_left, has_append_right, not_None}
 use Rattle.eco_full.specs.Netlists.{Kinds, statements, has_net, supply_by, supply_in, netlist_of}
-use Rattle.eco_full.proofs.Names.{same_name, is_name}
-use Rattle.eco_full.proofs.Members.{any_has, has_any, of_filter, of_order, to_order, of_once}
+use Rattle.eco_full.proofs.Names.{or_none, same_name, is_name}
+use Rattle.eco_full.proofs.Members.{has_of_append, any_has, has_any, of_filter, of_order, to_order, of_once}
 use Rattle.eco_full.proofs.Lookups.{net_is}
-use Rattle.eco_full.proofs.Statements.{has_of_append}
 
 -- ---- a net of the netlist
 
@@ -33,7 +32,7 @@ net_unknown kinds ties d n none = false_from_ne_true (has_net d n) (λ e. not_No
 abbrev pub supply_among : List NamedNet → Name → Option Bool
 supply_among ss q = first_some (map (λ s. supply_by s.usage) (filter (λ s. bytes_eq s.name q) ss))
 
-supply_among-append : (xs ys : List NamedNet) (q : Name) → supply_among (xs ++ ys) q ≡ option_or (supply_among xs q) (supply_among ys q)
+pub supply_among-append : (xs ys : List NamedNet) (q : Name) → supply_among (xs ++ ys) q ≡ option_or (supply_among xs q) (supply_among ys q)
 supply_among-append [] ys q = refl
 supply_among-append (x ∷ xs) ys q = go (bytes_eq x.name q) (supply_among-append xs ys q)
   where
@@ -77,10 +76,6 @@ no_supply [] q e = refl
 no_supply (s ∷ ss) q e =
     let r = or_parts (bytes_eq s.name q) (has_statement ss q) e in
     ap (λ b. first_some (map (λ s. supply_by s.usage) (cond b (s ∷ filter (λ s. bytes_eq s.name q) ss) (filter (λ s. bytes_eq s.name q) ss)))) r.0 ∙ no_supply ss q r.1
-
-or_none : (o : Option Bool) → option_or o None ≡ o
-or_none None = refl
-or_none (Some b) = refl
 
 module _ (d : NamedDesign) (joints : List NewJoint) (nets : List Name) where
   abbrev e : NamedDesign

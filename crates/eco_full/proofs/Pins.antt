@@ -12,17 +12,17 @@ use Rattle.eco_issued.specs.Issued.{issued_net, fresh_net, issued_design}
 use Rattle.eco_net.specs.Netlist.{Name}
 use Rattle.eco_net.proofs.Basics.{Has, has_map, has_of_map, has_append_left, has_append_right}
 use Rattle.eco_full.specs.Netlists.{statements, has_net, names_pin, has_joint, net_of_pin}
-use Rattle.eco_full.proofs.Names.{same_name, is_name}
-use Rattle.eco_full.proofs.Members.{any_has, has_any, all_has, has_all, of_filter, in_filter, to_order, to_once}
+use Rattle.eco_full.proofs.Names.{or_none, same_name, is_name}
+use Rattle.eco_full.proofs.Members.{has_of_append, any_has, has_any, all_has, has_all, of_filter, in_filter, to_order, to_once}
 use Rattle.eco_full.proofs.Joining.{IsFor}
-use Rattle.eco_full.proofs.Statements.{has_of_append, names_new, same_test, of_both, in_new, of_new_named, none_new}
+use Rattle.eco_full.proofs.Statements.{names_new, same_test, of_both, in_new, of_new_named, none_new}
 
 -- ---- the first statement that has a pin
 
 abbrev pub net_by : List NamedNet → Name → Name → Option Name
 net_by ss c p = option_map (λ s. s.name) (find (has_joint c p) ss)
 
-net_by-append : (xs ys : List NamedNet) (c p : Name) → net_by (xs ++ ys) c p ≡ option_or (net_by xs c p) (net_by ys c p)
+pub net_by-append : (xs ys : List NamedNet) (c p : Name) → net_by (xs ++ ys) c p ≡ option_or (net_by xs c p) (net_by ys c p)
 net_by-append xs ys c p = ap (option_map (λ s. s.name)) (find-append (has_joint c p) xs ys) ∙ go (find (has_joint c p) xs)
   where
     go : (o : Option NamedNet) → option_map (λ s. s.name) (option_or o (find (has_joint c p) ys)) ≡ option_or (option_map (λ s. s.name) o) (net_by ys c p)
@@ -52,10 +52,6 @@ net_by_one c p n (z ∷ ss) s h e all = ⊎_elim
     ap (λ b. option_map (λ y. y.name) (cond b (Some z) (find (has_joint c p) ss))) f
     ∙ net_by_one c p n ss s (⊎_elim (λ i. absurd (true≢false (sym e ∙ ap (has_joint c p) (sym i) ∙ f))) (λ i. i) h) e (λ y i. all y (inr i)))
     (cases_Bool (has_joint c p z))
-
-or_none : {A : Type 0} (o : Option A) → option_or o None ≡ o
-or_none None = refl
-or_none (Some x) = refl
 
 module _ (d : NamedDesign) (joints : List NewJoint) (nets : List Name) (c p : Name) where
   abbrev issued : Bool → NamedNet → NamedNet

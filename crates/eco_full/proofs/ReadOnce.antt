@@ -10,8 +10,7 @@ use Rattle.eco_def.specs.Named.{comp_names, pin_names}
 use Rattle.eco_net.proofs.Basics.{Has, has_from_contains, has_map, has_of_map, same_Some, not_None}
 use Rattle.eco_full.specs.Laws.{ReadOnce}
 use Rattle.eco_full.proofs.Names.{is_name as names_same}
-use Rattle.eco_full.proofs.Members.{has_any}
-use Rattle.eco_full.proofs.Statements.{has_of_append}
+use Rattle.eco_full.proofs.Members.{has_of_append, has_any}
 
 -- ---- what readings give
 

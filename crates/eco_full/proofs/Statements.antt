@@ -1,5 +1,5 @@
 -- Which joints the statements of an issued design have.
-use Rattle.std.proofs.Common.{◌≡◌, true, false, not, ◌&&◌, List, [], ◌∷◌, ◌++◌, map, sym, ap, ◌∙◌, inl, inr, ⊎_elim, ◌⊎◌, filter}
+use Rattle.std.proofs.Common.{◌≡◌, true, false, not, ◌&&◌, List, ◌++◌, map, sym, ap, ◌∙◌, filter}
 use Rattle.std.specs.List.{list_any}
 use Rattle.std.specs.Str.{bytes_eq}
 use Rattle.std.proofs.lemmas.Bool.{and_parts, and_from, not-true, false_from_ne_true}
@@ -11,11 +11,6 @@ use Rattle.eco_full.specs.Netlists.{names_pin}
 use Rattle.eco_full.proofs.Names.{same_name, is_name}
 use Rattle.eco_full.proofs.Members.{any_has, of_filter, in_filter, of_order, to_order}
 use Rattle.eco_full.proofs.Joining.{IsFor}
-
-pub has_of_append : {A : Type 0} (xs ys : List A) (z : A) → Has (xs ++ ys) z → Has xs z ⊎ Has ys z
-has_of_append [] ys z h = inr h
-has_of_append (x ∷ xs) ys z (inl e) = inl (inl e)
-has_of_append (x ∷ xs) ys z (inr h) = ⊎_elim (λ i. inl (inr i)) (λ i. inr i) (has_of_append xs ys z h)
 
 -- ---- a joint that names a pin
 
