@@ -1,0 +1,11 @@
+pub mod Names
+pub mod Joining
+pub mod Gates
+pub mod Sim
+pub mod Feeding
+pub mod Keeping
+pub mod Inserting
+pub mod Spares
+pub mod Step
+pub mod Start
+pub mod Patches

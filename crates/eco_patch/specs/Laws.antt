@@ -1,0 +1,37 @@
+-- A patch gate and a spare in its place compute the same.
+use Rattle.std.specs.Prelude.{List, Option, ◌↔◌}
+use Rattle.eco_text.specs.declared.geometry.Point.{Point}
+use Rattle.eco_net.specs.Netlist.{Name}
+use Rattle.eco_net.specs.CutKeys.{CutBits}
+use Rattle.eco_net.specs.Valuation.{Valuation, IsValuation}
+use Rattle.eco_patch.specs.Orders.{Order, Placement}
+use Rattle.eco_patch.specs.Insertion.{inserted}
+use Rattle.eco_patch.specs.Realisation.{realised}
+use Rattle.eco_patch.specs.Bases.{Base, IsBase, bare, HasBlank}
+use Rattle.eco_patch.specs.Rules.{KeepsRules}
+use Rattle.eco_patch.specs.Mappings.{IsMapping}
+use Rattle.eco_patch.specs.Meaning.{SameMeaning}
+use Rattle.eco_patch.specs.Live.{Commit, AreLive, abstract, concrete}
+
+-- an order that breaks no rule on the base, inserted under a label without a blank, and spares that map it
+pub record IsPatch (base : Base) (label : Name) (place : Name → Option Point) (order : Order) (placements : List Placement) : Type 0 where
+  pub base_is : IsBase base
+  pub no_blank : HasBlank label → ⊥
+  pub keeps : KeepsRules (bare base) (bare base) (inserted label place (bare base) order) order
+  pub mapped : IsMapping base order placements
+
+-- a map from nets to bits is a valuation of the netlist with the gates exactly where it is one of the netlist with the spares
+abbrev pub SameValuations : Type 0
+SameValuations =
+    (base : Base) (label : Name) (place : Name → Option Point) (order : Order) (placements : List Placement) → IsPatch base label place order placements
+    → (cut : CutBits) (v : Valuation) → IsValuation (inserted label place (bare base) order) cut v ↔ IsValuation (realised base.low base.high base.full order placements) cut v
+
+-- the two netlists mean the same
+abbrev pub PatchMeansSame : Type 0
+PatchMeansSame =
+    (base : Base) (label : Name) (place : Name → Option Point) (order : Order) (placements : List Placement) → IsPatch base label place order placements
+    → SameMeaning (inserted label place (bare base) order) (realised base.low base.high base.full order placements)
+
+-- so do those of several live orders
+abbrev pub LiveMeansSame : Type 0
+LiveMeansSame = (base : Base) (live : List Commit) → IsBase base → AreLive base live → SameMeaning (abstract base live) (concrete base live)

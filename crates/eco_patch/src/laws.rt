@@ -1,0 +1,13 @@
+ghost use Rattle.eco_patch.specs.Laws.{PatchMeansSame, SameValuations};
+
+/// A law: a map from nets to bits is a valuation of the base with an order's gates inserted exactly where it is one of the
+/// base with the spares in their place, for each choice of cut bits.
+pub fn same_valuations()
+    ensures { SameValuations }
+{}
+
+/// A law: the two netlists are loop-free, have the same nets, cut keys and observables, and for each choice of cut bits one
+/// valuation, which is the same and has the same value at each observable.
+pub fn patch_means_same()
+    ensures { PatchMeansSame }
+{}

@@ -1,0 +1,9 @@
+//! Change orders on a netlist: patch gates inserted as gates, patch gates realised as spares, and the law that the two
+//! compute the same.
+//!
+//! This crate holds definitions and laws; it has no code.
+#![tactic(auto)]
+
+mod laws;
+
+pub use crate::laws::{patch_means_same, same_valuations};
