@@ -9,3 +9,5 @@ pub mod Spares
 pub mod Step
 pub mod Start
 pub mod Patches
+pub mod Relabel
+pub mod Fold

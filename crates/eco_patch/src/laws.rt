@@ -1,4 +1,4 @@
-ghost use Rattle.eco_patch.specs.Laws.{PatchMeansSame, SameValuations};
+ghost use Rattle.eco_patch.specs.Laws.{LiveMeansSame, PatchMeansSame, SameValuations};
 
 /// A law: a map from nets to bits is a valuation of the base with an order's gates inserted exactly where it is one of the
 /// base with the spares in their place, for each choice of cut bits.
@@ -10,4 +10,10 @@ pub fn same_valuations()
 /// valuation, which is the same and has the same value at each observable.
 pub fn patch_means_same()
     ensures { PatchMeansSame }
+{}
+
+/// A law: so do those of several live orders, inserted one after another on the base without its stock and realised one after
+/// another on the whole base.
+pub fn live_means_same()
+    ensures { LiveMeansSame }
 {}

@@ -6,4 +6,4 @@
 
 mod laws;
 
-pub use crate::laws::{patch_means_same, same_valuations};
+pub use crate::laws::{live_means_same, patch_means_same, same_valuations};
