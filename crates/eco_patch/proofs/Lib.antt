@@ -11,3 +11,5 @@ pub mod Start
 pub mod Patches
 pub mod Relabel
 pub mod Fold
+pub mod Listed
+mod Example
