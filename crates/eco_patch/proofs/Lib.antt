@@ -13,3 +13,4 @@ pub mod Relabel
 pub mod Fold
 pub mod Listed
 mod Example
+pub mod Lighter

@@ -5,7 +5,7 @@ use Rattle.std.specs.Ordering.{eq_by_cmp}
 use Rattle.std.specs.FinMap.{get, retain_keys}
 use Rattle.std.specs.FinSet.{contains, from_list}
 use Rattle.eco_net.specs.Netlist.{Name, name_cmp, Netlist, Component, Gate, Computes, role_of, IsWhole}
-use Rattle.eco_net.specs.Drivers.{Computed}
+use Rattle.eco_net.specs.Drivers.{driven_at, Computed}
 use Rattle.eco_net.specs.Walks.{IsLoopFree}
 
 -- full: every component, stock too. low, high: the tie nets
@@ -35,6 +35,13 @@ pub record IsSpare (x : Component) : Type 0 where
   pub outputs : List (Name × List Bool)
   pub gate : x.kind ≡ Gate inputs outputs
   pub off : (p : Name) (t : List Bool) → role_of x p ≡ Some (Computes t) → get x.joined p ≡ None
+
+-- N is M without some components, each of which drives nothing
+pub record IsWithout (M N : Netlist) : Type 0 where
+  pub nets : N.nets ≡ M.nets
+  pub tops : N.tops ≡ M.tops
+  pub kept : (c : Name) (x : Component) → get N.comps c ≡ Some x → get M.comps c ≡ Some x
+  pub others : (c : Name) (x : Component) → get M.comps c ≡ Some x → (get N.comps c ≡ Some x) ⊎ ((p n : Name) → driven_at (Some x) p ≡ Some n → ⊥)
 
 -- byte 32, which no name in a DEF text has
 abbrev pub HasBlank : Name → Type 0

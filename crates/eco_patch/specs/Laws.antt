@@ -1,15 +1,18 @@
 -- A patch gate and a spare in its place compute the same.
-use Rattle.std.specs.Prelude.{List, Option, ◌↔◌}
+use Rattle.std.specs.Prelude.{◌≡◌, List, [], Option, ◌↔◌}
+use Rattle.std.specs.List.{Contains}
+use Rattle.std.specs.FinMap.{get}
 use Rattle.eco_text.specs.declared.geometry.Point.{Point}
-use Rattle.eco_net.specs.Netlist.{Name}
+use Rattle.eco_net.specs.Netlist.{Name, Netlist}
 use Rattle.eco_net.specs.CutKeys.{CutBits}
 use Rattle.eco_net.specs.Valuation.{Valuation, IsValuation}
+use Rattle.eco_net.specs.Walks.{IsLoopFree}
 use Rattle.eco_patch.specs.Orders.{Order, Placement}
 use Rattle.eco_patch.specs.Insertion.{inserted}
 use Rattle.eco_patch.specs.Realisation.{realised}
-use Rattle.eco_patch.specs.Bases.{Base, IsBase, bare, HasBlank}
+use Rattle.eco_patch.specs.Bases.{Base, IsBase, IsWithout, bare, HasBlank}
 use Rattle.eco_patch.specs.Rules.{KeepsRules}
-use Rattle.eco_patch.specs.Mappings.{IsMapping}
+use Rattle.eco_patch.specs.Mappings.{IsMapping, spares_of}
 use Rattle.eco_patch.specs.Meaning.{SameMeaning}
 use Rattle.eco_patch.specs.Live.{Commit, AreLive, abstract, concrete}
 
@@ -35,3 +38,16 @@ PatchMeansSame =
 -- so do those of several live orders
 abbrev pub LiveMeansSame : Type 0
 LiveMeansSame = (base : Base) (live : List Commit) → IsBase base → AreLive base live → SameMeaning (abstract base live) (concrete base live)
+
+-- taking away components that drive nothing makes no loop
+abbrev pub WithoutIsLoopFree : Type 0
+WithoutIsLoopFree = (M N : Netlist) → IsWithout M N → IsLoopFree M → IsLoopFree N
+
+-- a stock component that no live order has stands as in the base, and with no live order all does
+abbrev pub FreeStockRests : Type 0
+FreeStockRests =
+    (base : Base) (live : List Commit) → IsBase base → AreLive base live → (s : Name) → Contains base.stock s → ((c : Commit) → Contains live c → Contains (spares_of c.placements) s → ⊥)
+    → get (concrete base live).comps s ≡ get base.full.comps s
+
+abbrev pub NothingLive : Type 0
+NothingLive = (base : Base) → concrete base [] ≡ base.full

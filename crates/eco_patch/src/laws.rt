@@ -1,4 +1,4 @@
-ghost use Rattle.eco_patch.specs.Laws.{LiveMeansSame, PatchMeansSame, SameValuations};
+ghost use Rattle.eco_patch.specs.Laws.{FreeStockRests, LiveMeansSame, NothingLive, PatchMeansSame, SameValuations, WithoutIsLoopFree};
 
 /// A law: a map from nets to bits is a valuation of the base with an order's gates inserted exactly where it is one of the
 /// base with the spares in their place, for each choice of cut bits.
@@ -16,4 +16,15 @@ pub fn patch_means_same()
 /// another on the whole base.
 pub fn live_means_same()
     ensures { LiveMeansSame }
+{}
+
+/// A law: a stock component that no live order has stands as in the base, and with no live order the whole base does.
+pub fn free_stock_rests()
+    ensures rests { FreeStockRests }
+    ensures none { NothingLive }
+{}
+
+/// A law: taking away components that drive nothing makes no loop.
+pub fn without_is_loop_free()
+    ensures { WithoutIsLoopFree }
 {}

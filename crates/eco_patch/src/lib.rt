@@ -6,4 +6,6 @@
 
 mod laws;
 
-pub use crate::laws::{live_means_same, patch_means_same, same_valuations};
+pub use crate::laws::{
+    free_stock_rests, live_means_same, patch_means_same, same_valuations, without_is_loop_free,
+};
