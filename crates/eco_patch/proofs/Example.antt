@@ -8,7 +8,7 @@ use Rattle.std.specs.FinMap.{get, find, get-from_entries}
 use Rattle.std.specs.FinSet.{contains-from_list}
 use Rattle.std.specs.Cmp.Lexicographic.{nat_list_cmp_total}
 use Rattle.eco_text.specs.declared.geometry.Point.{Point}
-use Rattle.eco_net.specs.Netlist.{Name, name_cmp, Netlist, Component, Gate, Pin, CompPin, Role, Computes, Reads, IsWhole, IsNet, role_of}
+use Rattle.eco_net.specs.Netlist.{Name, name_cmp, Netlist, Component, Gate, Pin, CompPin, Role, Computes, Reads, IsWhole, IsNet, IsPin, role_of}
 use Rattle.eco_net.specs.Drivers.{driven, net_of, IsDriver, Computed, IsComputed, IsFree, is_driving, joined_at}
 use Rattle.eco_net.specs.CutKeys.{CutBits}
 use Rattle.eco_net.specs.Valuation.{Valuation, IsValuation, look}
@@ -346,9 +346,9 @@ m1_no_tie t = true≢false (sym t ∙ contains-from_list nat_list_cmp_total list
 pub keeps_rules : KeepsRules (bare base) (bare base) P order
 unfolding IsDistinct
 keeps_rules = record {
-  named_apart = (tt, tt);
+  once = record { nets = (tt, tt); gates = (tt, tt); moves = (tt, tt) };
   nets_known = known;
-  pins_known = λ m c. (component inverter, ap (λ z. get (bare base).comps z.comp) (sym (its_move m c)) ∙ u2_is);
+  pins_known = λ m c. (component inverter, ap (λ z. get (bare base).comps z.comp) (sym (its_move m c)) ∙ u2_is, subst (λ z. IsPin (component inverter) z.pin) (its_move m c) (Reads, refl));
   true_moves = λ m c. subst (λ z. net_of (bare base) (CompPin z.comp z.pin) ≡ z.from) (its_move m c) (ap (λ o. joined_at o (codes "A")) u2_is ∙ joined_made inverter (codes "A"));
   no_supply = λ n r. (
     λ b e. not_None (sym e ∙ ap (get (bare base).nets) (sym (redriven n r)) ∙ m1_new),

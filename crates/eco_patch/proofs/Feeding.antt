@@ -29,7 +29,7 @@ spare_computes x s p d =
     let r = driving_computes s.inputs s.outputs p (ap (λ k. is_driving (role_of (record x { kind = k }) p)) (sym s.gate) ∙ d) in
     (r.0, ap (λ k. role_of (record x { kind = k }) p) s.gate ∙ r.1)
 
-spare_output : (x : Component) → IsSpare x → (p : Name) (t : List Bool) → role_of x p ≡ Some (Computes t) → Has (input_names x.kind) p → ⊥
+pub spare_output : (x : Component) → IsSpare x → (p : Name) (t : List Bool) → role_of x p ≡ Some (Computes t) → Has (input_names x.kind) p → ⊥
 spare_output x s p t e h = output_no_input s.inputs s.outputs p t (ap (λ k. role_of (record x { kind = k }) p) (sym s.gate) ∙ e) (subst (λ k. Has (input_names k) p) s.gate h)
 
 pub spare_idle : (x : Component) → IsSpare x → Idle x

@@ -1,22 +1,23 @@
 -- The rules and the mappings, by what stands in lists
 use Rattle.std.proofs.Common.{◌≡◌, Bool, List, length, Some, None, refl, sym, ap, ◌∙◌, inl, inr, ⊎_elim, ◌⊎◌}
-use Rattle.std.specs.List.{zip}
+use Rattle.std.specs.List.{zip, IsDistinct}
+use Rattle.std.specs.Ordering.{eq_by_cmp}
 use Rattle.std.specs.FinMap.{get}
-use Rattle.eco_net.specs.Netlist.{Name, Netlist, Component, IsNet, Pin}
+use Rattle.eco_net.specs.Netlist.{Name, name_cmp, Netlist, Component, IsNet, Pin}
 use Rattle.eco_net.specs.Drivers.{driven, joined_at}
 use Rattle.eco_net.specs.Walks.{IsLoopFree}
 use Rattle.eco_net.proofs.Basics.{Has, contains_from_has, has_from_contains, has_map}
 use Rattle.eco_patch.specs.Orders.{PatchGate, Move, Order, Placement}
 use Rattle.eco_patch.specs.Bases.{Base, IsTie}
-use Rattle.eco_patch.specs.Rules.{KeepsRules, GatesAreNamedApart, IsRedriven, by_gate, as_output}
+use Rattle.eco_patch.specs.Rules.{KeepsRules, IsRedriven, by_gate, as_output}
 use Rattle.eco_patch.specs.Embeddings.{Embeds}
 use Rattle.eco_patch.specs.Mappings.{IsMapping}
 use Rattle.eco_patch.proofs.Names.{one_of_name}
-use Rattle.eco_patch.proofs.Spares.{Pair, SparesApart, spares_apart, spare_names, zip_right}
+use Rattle.eco_patch.proofs.Spares.{Pair, SparesApart, spares_apart, gate_names, spare_names, zip_right}
 
 -- an order that breaks no rule
 pub record Keeps (bare N P : Netlist) (order : Order) : Type 0 where
-  pub apart : GatesAreNamedApart order
+  pub apart : IsDistinct (eq_by_cmp name_cmp) (gate_names order.gates)
   pub outputs_known : (g : PatchGate) → Has order.gates g → IsNet N g.output ⊎ Has order.nets g.output
   pub movable : (m : Move) → Has order.moves m → (x : Component) × (get bare.comps m.comp ≡ Some x)
   pub from_is : (m : Move) (x : Component) → Has order.moves m → get N.comps m.comp ≡ Some x → get x.joined m.pin ≡ m.from
@@ -27,7 +28,7 @@ pub record Keeps (bare N P : Netlist) (order : Order) : Type 0 where
   pub loop_free : IsLoopFree P
 
 -- a gate is known by its name
-pub gate_of_name : (order : Order) (g h : PatchGate) → GatesAreNamedApart order → Has order.gates g → Has order.gates h → g.name ≡ h.name → g ≡ h
+pub gate_of_name : (order : Order) (g h : PatchGate) → IsDistinct (eq_by_cmp name_cmp) (gate_names order.gates) → Has order.gates g → Has order.gates h → g.name ≡ h.name → g ≡ h
 gate_of_name order g h a i j e = one_of_name (λ g. g.name) order.gates g h a i j e
 
 pub redriven_gate : (N : Netlist) (order : Order) (g : PatchGate) → Has order.gates g → IsRedriven N order g.output
@@ -35,9 +36,9 @@ redriven_gate N order g h = by_gate g (contains_from_has order.gates g h) refl
 
 pub keeps_from : (bare N P : Netlist) (order : Order) → KeepsRules bare N P order → Keeps bare N P order
 keeps_from bare N P order k = record {
-  apart = k.named_apart;
+  apart = k.once.gates;
   outputs_known = λ g h. ⊎_elim (λ i. inl i) (λ c. inr (has_from_contains order.nets g.output c)) (k.nets_known g.output (as_output g (contains_from_has order.gates g h) refl));
-  movable = λ m h. k.pins_known m (contains_from_has order.moves m h);
+  movable = λ m h. let r = k.pins_known m (contains_from_has order.moves m h) in (r.0, r.1);
   from_is = λ m x h e. sym (ap (λ o. joined_at o m.pin) e) ∙ k.true_moves m (contains_from_has order.moves m h);
   no_supply = λ n b r e. (k.no_supply n r).0 b e;
   no_tie = λ n r t. (k.no_supply n r).1 t;

@@ -14,3 +14,4 @@ pub mod Fold
 pub mod Listed
 mod Example
 pub mod Lighter
+pub mod Taking

@@ -77,7 +77,7 @@ module _ (low high : Name) (M : Netlist) where
   abbrev pub joints_of : Pair → List Joint
   joints_of e = spare_joints low high e.0 e.1 (get M.comps e.1.spare)
 
-  spare_joint : (e : Pair) (j : Joint) → Has (joints_of e) j → j.comp ≡ e.1.spare
+  pub spare_joint : (e : Pair) (j : Joint) → Has (joints_of e) j → j.comp ≡ e.1.spare
   spare_joint e j = go (get M.comps e.1.spare)
     where
       go : (o : Option Component) → Has (spare_joints low high e.0 e.1 o) j → j.comp ≡ e.1.spare

@@ -1,7 +1,9 @@
 -- A netlist with pins put on nets: what an order's metal does to the base, where no component comes, goes or changes place.
-use Rattle.std.specs.Prelude.{Bool, List, [], ◌∷◌, Option, Some, None}
+use Rattle.std.specs.Prelude.{◌≡◌, Bool, ◌&&◌, ◌⊎◌, List, [], ◌∷◌, Option, Some, None}
+use Rattle.std.specs.List.{Contains, IsDistinct}
+use Rattle.std.specs.Ordering.{eq_by_cmp}
 use Rattle.std.specs.FinMap.{FinMap, get, insert}
-use Rattle.eco_net.specs.Netlist.{Name, name_cmp, Netlist, Component}
+use Rattle.eco_net.specs.Netlist.{Name, name_cmp, Netlist, Component, IsNet, IsPin}
 
 -- a component's pin, and the net that it is put on
 pub record Joint : Type 0 where
@@ -26,3 +28,14 @@ put_joints m (j ∷ js) = put_on (put_joints m js) j (get (put_joints m js) j.co
 -- the netlist with these new nets and with these pins on their nets
 abbrev pub with_joints : Netlist → List Joint → List Name → Netlist
 with_joints N joints nets = record N { nets = with_nets N.nets nets; comps = put_joints N.comps joints }
+
+-- the joints are of one pin
+abbrev pub same_pin : Joint → Joint → Bool
+same_pin j k = eq_by_cmp name_cmp j.comp k.comp && eq_by_cmp name_cmp j.pin k.pin
+
+-- Joints that a netlist can take beside these new nets: each is of another pin, its component has the pin, and its net is one
+-- of the netlist or a new one.
+pub record Takes (N : Netlist) (nets : List Name) (joints : List Joint) : Type 0 where
+  pub once : IsDistinct same_pin joints
+  pub pins : (j : Joint) → Contains joints j → (x : Component) × (get N.comps j.comp ≡ Some x) × IsPin x j.pin
+  pub nets_known : (j : Joint) → Contains joints j → IsNet N j.net ⊎ Contains nets j.net

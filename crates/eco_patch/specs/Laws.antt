@@ -8,8 +8,9 @@ use Rattle.eco_net.specs.CutKeys.{CutBits}
 use Rattle.eco_net.specs.Valuation.{Valuation, IsValuation}
 use Rattle.eco_net.specs.Walks.{IsLoopFree}
 use Rattle.eco_patch.specs.Orders.{Order, Placement}
+use Rattle.eco_patch.specs.Joints.{Takes}
 use Rattle.eco_patch.specs.Insertion.{inserted}
-use Rattle.eco_patch.specs.Realisation.{realised}
+use Rattle.eco_patch.specs.Realisation.{patch_joints, realised}
 use Rattle.eco_patch.specs.Bases.{Base, IsBase, IsWithout, bare, HasBlank}
 use Rattle.eco_patch.specs.Rules.{KeepsRules}
 use Rattle.eco_patch.specs.Mappings.{IsMapping, spares_of}
@@ -34,6 +35,12 @@ abbrev pub PatchMeansSame : Type 0
 PatchMeansSame =
     (base : Base) (label : Name) (place : Name → Option Point) (order : Order) (placements : List Placement) → IsPatch base label place order placements
     → SameMeaning (inserted label place (bare base) order) (realised base.low base.high base.full order placements)
+
+-- the joints that realise a patch are ones that the base can take
+abbrev pub BaseTakesJoints : Type 0
+BaseTakesJoints =
+    (base : Base) (label : Name) (place : Name → Option Point) (order : Order) (placements : List Placement) → IsPatch base label place order placements
+    → Takes base.full order.nets (patch_joints base.low base.high base.full order placements)
 
 -- so do those of several live orders
 abbrev pub LiveMeansSame : Type 0

@@ -3,15 +3,19 @@ use Rattle.std.specs.Prelude.{◌≡◌, Bool, true, map, ◌⊎◌, Some, None}
 use Rattle.std.specs.List.{Contains, IsDistinct}
 use Rattle.std.specs.Ordering.{eq_by_cmp}
 use Rattle.std.specs.FinMap.{get}
-use Rattle.eco_net.specs.Netlist.{Name, name_cmp, Netlist, Component, Pin, CompPin, IsNet, role_of}
+use Rattle.eco_net.specs.Netlist.{Name, name_cmp, Netlist, Component, Pin, CompPin, IsNet, IsPin, role_of}
 use Rattle.eco_net.specs.Drivers.{is_driving, driven, net_of}
 use Rattle.eco_net.specs.Walks.{IsLoopFree}
 use Rattle.eco_patch.specs.Orders.{PatchGate, Move, Order}
+use Rattle.eco_patch.specs.Joints.{same_pin}
+use Rattle.eco_patch.specs.Insertion.{move_joint}
 use Rattle.eco_patch.specs.Bases.{IsTie}
 
--- no two gates have one name
-abbrev pub GatesAreNamedApart : Order → Type 0
-GatesAreNamedApart order = IsDistinct (eq_by_cmp name_cmp) (map (λ g. g.name) order.gates)
+-- no net, no gate and no moved pin stands twice
+pub record NoneStandsTwice (order : Order) : Type 0 where
+  pub nets : IsDistinct (eq_by_cmp name_cmp) order.nets
+  pub gates : IsDistinct (eq_by_cmp name_cmp) (map (λ g. g.name) order.gates)
+  pub moves : IsDistinct same_pin (map move_joint order.moves)
 
 -- a net that the order names, and that is to be one of the netlist or of the order's new ones
 pub data Names (order : Order) (n : Name) : Type 0 where
@@ -22,9 +26,9 @@ pub data Names (order : Order) (n : Name) : Type 0 where
 abbrev pub NetsAreKnown : Netlist → Order → Type 0
 NetsAreKnown N order = (n : Name) → Names order n → IsNet N n ⊎ Contains order.nets n
 
--- moved pins are those of components of the base that are no stock
+-- moved pins are pins of components of the base that are no stock
 abbrev pub PinsAreKnown : Netlist → Order → Type 0
-PinsAreKnown bare order = (m : Move) → Contains order.moves m → (x : Component) × (get bare.comps m.comp ≡ Some x)
+PinsAreKnown bare order = (m : Move) → Contains order.moves m → (x : Component) × (get bare.comps m.comp ≡ Some x) × IsPin x m.pin
 
 -- each moved pin is on the net that the order says
 abbrev pub MovesAreTrue : Netlist → Order → Type 0
@@ -54,7 +58,7 @@ NoTwoDrivers N P order = (n : Name) → IsRedriven N order n → (p q : Pin) →
 
 -- no rule is broken. bare: the base without its stock
 pub record KeepsRules (bare N P : Netlist) (order : Order) : Type 0 where
-  pub named_apart : GatesAreNamedApart order
+  pub once : NoneStandsTwice order
   pub nets_known : NetsAreKnown N order
   pub pins_known : PinsAreKnown bare order
   pub true_moves : MovesAreTrue N order
