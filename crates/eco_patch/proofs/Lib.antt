@@ -15,3 +15,4 @@ pub mod Listed
 mod Example
 pub mod Lighter
 pub mod Taking
+pub mod Alone

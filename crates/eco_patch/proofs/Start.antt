@@ -10,7 +10,7 @@ use Rattle.eco_patch.specs.Bases.{Base, IsBase, IsSpare, is_stock, bare}
 use Rattle.eco_patch.proofs.Feeding.{spare_idle}
 use Rattle.eco_patch.proofs.Step.{Related}
 
-bool_cases : (b : Bool) → (b ≡ true) ⊎ (b ≡ false)
+pub bool_cases : (b : Bool) → (b ≡ true) ⊎ (b ≡ false)
 bool_cases true = inl refl
 bool_cases false = inr refl
 
@@ -26,7 +26,7 @@ or_left : (a b : Bool) → a ≡ true → (a || b) ≡ true
 or_left true b e = refl
 or_left false b e = absurd (true≢false (sym e))
 
-any_has : (c : Name) (ns : List Name) → list_any (eq_by_cmp name_cmp c) ns ≡ true → Has ns c
+pub any_has : (c : Name) (ns : List Name) → list_any (eq_by_cmp name_cmp c) ns ≡ true → Has ns c
 any_has c [] e = absurd (true≢false (sym e))
 any_has c (n ∷ ns) e = ⊎_elim (λ h. inl (sym (same_of_cmp c n h))) (λ h. inr (any_has c ns h)) (or_cases _ _ e)
 

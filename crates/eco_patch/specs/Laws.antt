@@ -1,5 +1,5 @@
 -- A patch gate and a spare in its place compute the same.
-use Rattle.std.specs.Prelude.{◌≡◌, List, [], Option, ◌↔◌}
+use Rattle.std.specs.Prelude.{◌≡◌, List, [], ◌∷◌, Option, ◌↔◌}
 use Rattle.std.specs.List.{Contains}
 use Rattle.std.specs.FinMap.{get}
 use Rattle.eco_text.specs.declared.geometry.Point.{Point}
@@ -7,7 +7,7 @@ use Rattle.eco_net.specs.Netlist.{Name, Netlist}
 use Rattle.eco_net.specs.CutKeys.{CutBits}
 use Rattle.eco_net.specs.Valuation.{Valuation, IsValuation}
 use Rattle.eco_net.specs.Walks.{IsLoopFree}
-use Rattle.eco_patch.specs.Orders.{Order, Placement}
+use Rattle.eco_patch.specs.Orders.{PatchGate, Move, Order, Placement}
 use Rattle.eco_patch.specs.Joints.{Takes}
 use Rattle.eco_patch.specs.Insertion.{inserted}
 use Rattle.eco_patch.specs.Realisation.{patch_joints, realised}
@@ -15,6 +15,7 @@ use Rattle.eco_patch.specs.Bases.{Base, IsBase, IsWithout, bare, HasBlank}
 use Rattle.eco_patch.specs.Rules.{KeepsRules}
 use Rattle.eco_patch.specs.Mappings.{IsMapping, spares_of}
 use Rattle.eco_patch.specs.Meaning.{SameMeaning}
+use Rattle.eco_patch.specs.Lone.{lone_base, lone_order, IsLone}
 use Rattle.eco_patch.specs.Live.{Commit, AreLive, abstract, concrete}
 
 -- an order that breaks no rule on the base, inserted under a label without a blank, and spares that map it
@@ -23,6 +24,12 @@ pub record IsPatch (base : Base) (label : Name) (place : Name → Option Point) 
   pub no_blank : HasBlank label → ⊥
   pub keeps : KeepsRules (bare base) (bare base) (inserted label place (bare base) order) order
   pub mapped : IsMapping base order placements
+
+-- one gate on a new net, which one input pin goes to, is such an order
+abbrev pub LoneIsPatch : Type 0
+LoneIsPatch =
+    (full : Netlist) (low high label : Name) (place : Name → Option Point) (gate : PatchGate) (move : Move) (p : Placement) → IsLone full low high label place gate move p
+    → IsPatch (lone_base full low high p.spare) label place (lone_order gate move) (p ∷ [])
 
 -- a map from nets to bits is a valuation of the netlist with the gates exactly where it is one of the netlist with the spares
 abbrev pub SameValuations : Type 0

@@ -8,4 +8,5 @@ pub mod Rules
 pub mod Mappings
 pub mod Meaning
 pub mod Live
+pub mod Lone
 pub mod Laws

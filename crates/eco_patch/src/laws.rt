@@ -1,4 +1,4 @@
-ghost use Rattle.eco_patch.specs.Laws.{BaseTakesJoints, FreeStockRests, LiveMeansSame, NothingLive, PatchMeansSame, SameValuations, WithoutIsLoopFree};
+ghost use Rattle.eco_patch.specs.Laws.{BaseTakesJoints, FreeStockRests, LiveMeansSame, LoneIsPatch, NothingLive, PatchMeansSame, SameValuations, WithoutIsLoopFree};
 
 /// A law: a map from nets to bits is a valuation of the base with an order's gates inserted exactly where it is one of the
 /// base with the spares in their place, for each choice of cut bits.
@@ -10,6 +10,12 @@ pub fn same_valuations()
 /// valuation, which is the same and has the same value at each observable.
 pub fn patch_means_same()
     ensures { PatchMeansSame }
+{}
+
+/// A law: one gate on a new net, which one input pin goes to, with its embedding in one spare, is an order that the laws above
+/// speak of.
+pub fn lone_is_patch()
+    ensures { LoneIsPatch }
 {}
 
 /// A law: the joints that realise an order are ones that the base can take: each is of another pin, its component has the pin,
