@@ -21,12 +21,13 @@ use Rattle.eco_net.proofs.Keys.{one_cut_key}
 use Rattle.eco_net.proofs.One.{one_valuation}
 use Rattle.eco_patch.specs.Orders.{PatchGate, Move, Order, Feed, Zero, One, FromInput, Placement}
 use Rattle.eco_patch.specs.Joints.{Joint, with_joints}
-use Rattle.eco_patch.specs.Insertion.{patch_name, output_pin, move_joint, with_gates, inserted}
-use Rattle.eco_patch.specs.Realisation.{spare_joints, realised}
+use Rattle.eco_patch.specs.Insertion.{input_pins, patch_name, output_pin, move_joint, with_gates, inserted}
+use Rattle.eco_patch.specs.Realisation.{on_pin, patch_joints, spare_joints, realised}
 use Rattle.eco_patch.specs.Embeddings.{Embeds, feed_value, IsAmong}
 use Rattle.eco_patch.specs.Bases.{Base, IsBase, IsSpare, IsTie, bare}
 use Rattle.eco_patch.specs.Rules.{KeepsRules, IsRedriven, by_gate, left_by, reached_by, Names, as_input, as_output, as_goal}
 use Rattle.eco_patch.specs.Mappings.{IsMapping}
+use Rattle.eco_patch.specs.Live.{Commit, AreLive, IsGoodName}
 use Rattle.eco_patch.specs.Laws.{IsPatch}
 use Rattle.eco_patch.proofs.Listed.{lists_with, bare_lists, bare_made, joints_made, gates_made, parts_of, patch_part, not_computed_by, two_deep, reads_of}
 use Rattle.eco_patch.proofs.Spares.{Pair}
@@ -419,6 +420,48 @@ by_spare : (cut : CutBits) (v : Valuation) → get v (codes "a") ≡ Some true �
 by_spare cut v a is =
     let p = (same_valuations base [] no_place order (placement ∷ []) is_patch cut v).1 is in
     (m1_is cut v a p, n2_is cut v a p)
+
+-- ---- the pins that the order puts on other nets
+
+its_joints : patch_joints base.low base.high base.full order (placement ∷ []) ≡ on_pin (codes "u2") (codes "A") (codes "m1") ∷ on_pin (codes "SP_1") (codes "Y") (codes "m1") ∷ on_pin (codes "SP_1") (codes "A") (codes "VDD") ∷ on_pin (codes "SP_1") (codes "B") (codes "a") ∷ []
+its_joints = ap (λ o. map move_joint (move ∷ []) ++ (spare_joints base.low base.high gate placement o ++ [])) (comp_made lists (codes "SP_1"))
+
+-- names as they stand in issued texts
+patch_names : patch_name (codes "one") (codes "g1") ≡ codes "one g1"
+patch_names = refl
+
+pin_names : map (λ e. e.0) (input_pins (codes "a" ∷ codes "b" ∷ [])) ≡ codes "i0" ∷ codes "i1" ∷ []
+pin_names = refl
+
+-- ---- the order live
+
+abbrev commit : Commit
+commit = record { order = order; placements = placement ∷ [] }
+
+pub live : AreLive base (commit ∷ [])
+live = record {
+  keep = (keeps_rules, tt);
+  names = λ c h. good c (has_from_contains (commit ∷ []) c h);
+  mapped = λ c h. maps c (has_from_contains (commit ∷ []) c h);
+  apart = (λ c h. absurd (has_from_contains [] c h), tt);
+}
+  where
+    one_good : IsGoodName (codes "one")
+    one_good = (λ e. cc, λ b. no (has_from_contains (codes "one") 32 b))
+      where
+        no : Has (codes "one") 32 → ⊥
+        no (inl e) = omega (arith, e)
+        no (inr (inl e)) = omega (arith, e)
+        no (inr (inr (inl e))) = omega (arith, e)
+        no (inr (inr (inr h))) = h
+
+    good : (c : Commit) → Has (commit ∷ []) c → IsGoodName c.order.name
+    good c (inl e) = subst (λ z. IsGoodName z.order.name) e one_good
+    good c (inr h) = absurd h
+
+    maps : (c : Commit) → Has (commit ∷ []) c → IsMapping base c.order c.placements
+    maps c (inl e) = subst (λ z. IsMapping base z.order z.placements) e mapped
+    maps c (inr h) = absurd h
 
 -- ---- with the tie nets changed over the law fails
 

@@ -173,7 +173,7 @@ module _ (low high : Name) (g : PatchGate) (p : Placement) (x : Component) (s : 
     no_outside = λ q d e. spare_no_outside x s q d e;
   }
 
-  serving_reads : inputs_of serving ≡ map (feed_net low high g.inputs) p.feeds
+  pub serving_reads : inputs_of serving ≡ map (feed_net low high g.inputs) p.feeds
   serving_reads =
       map_agree _ _ (input_names x.kind) (λ q h.
       ap (λ z. get z q) serving_joined

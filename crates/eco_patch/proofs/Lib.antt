@@ -16,3 +16,4 @@ mod Example
 pub mod Lighter
 pub mod Taking
 pub mod Alone
+pub mod Pins

@@ -1,24 +1,24 @@
 -- One order more keeps the two netlists alike
-use Rattle.std.proofs.Common.{◌≡◌, ◌≢◌, true, false, List, [], ◌∷◌, ◌++◌, map, length, Option, Some, None, refl, sym, ap, ◌∙◌, subst, inl, inr, ⊎_elim, ◌⊎◌}
+use Rattle.std.proofs.Common.{◌≡◌, Bool, ◌≢◌, true, false, List, [], ◌∷◌, ◌++◌, map, length, Option, Some, None, refl, sym, ap, ◌∙◌, subst, inl, inr, ⊎_elim, ◌⊎◌}
 use Rattle.std.specs.FinMap.{get}
 use Rattle.std.specs.FinSet.{contains}
 use Rattle.eco_text.specs.declared.geometry.Point.{Point}
-use Rattle.eco_net.specs.Netlist.{Name, Netlist, Component, inputs_of, CompPin}
-use Rattle.eco_net.specs.Drivers.{driven, driven_at}
+use Rattle.eco_net.specs.Netlist.{Name, Netlist, Component, Computes, role_of, inputs_of, CompPin}
+use Rattle.eco_net.specs.Drivers.{driven, driven_at, Computed}
 use Rattle.eco_net.specs.Walks.{IsLoopFree}
 use Rattle.eco_net.proofs.Basics.{Has, same_Some, not_None, same_name, has_map, has_of_map, has_append_left, has_append_right, contains_from_has}
 use Rattle.eco_patch.specs.Orders.{PatchGate, Move, Order, Placement}
 use Rattle.eco_patch.specs.Joints.{Joint, with_nets}
 use Rattle.eco_patch.specs.Insertion.{patch_name, output_pin, patch_component, move_joint, inserted}
-use Rattle.eco_patch.specs.Realisation.{realised, all_spare_joints, spare_joints}
+use Rattle.eco_patch.specs.Realisation.{feed_net, realised, all_spare_joints, spare_joints}
 use Rattle.eco_patch.specs.Embeddings.{Embeds}
 use Rattle.eco_patch.specs.Bases.{Base, IsBase, IsSpare, IsTie, bare}
 use Rattle.eco_patch.specs.Rules.{IsRedriven}
 use Rattle.eco_patch.proofs.Names.{one_gate_name, one_label, has_blank, has_of_append, missing}
 use Rattle.eco_patch.proofs.Joining.{rejoin, rejoined, rejoined_append, rejoined_other, joined_some, joined_none, joined_same, joined_left}
 use Rattle.eco_patch.proofs.Gates.{patch_drives, patch_reads, inputs_distinct}
-use Rattle.eco_patch.proofs.Sim.{Use, InPlace, Idle, Sim}
-use Rattle.eco_patch.proofs.Feeding.{serving, serving_drives, serving_serves}
+use Rattle.eco_patch.proofs.Sim.{Use, InPlace, Idle, Sim, spare_driver}
+use Rattle.eco_patch.proofs.Feeding.{serving, serving_drives, serving_reads, serving_serves}
 use Rattle.eco_patch.proofs.Spares.{Pair, spare_names, zip_left, zip_right, zip_has, pair_of_name, among_spares, spares_joint, spares_in}
 use Rattle.eco_patch.proofs.Keeping.{Keeps, Mapped, pairs_of, redriven_gate}
 use Rattle.eco_patch.proofs.Inserting.{moved, moved_some, moved_back, moved_not, unmoved_joint, gates_cases, in_still, in_moved, in_none, in_cases, in_gate, drove, net_stays, constant_stays, output_net}
@@ -256,6 +256,37 @@ module _ (base : Base) (is : IsBase base) (N M : Netlist) (names used : List Nam
       low_is = constant_stays label place (bare base) N N' order keeps new base.low false (off_tie order N' keeps base.low is.low_tie) rel.sim.low_is;
       high_is = constant_stays label place (bare base) N N' order keeps new base.high true (off_tie order N' keeps base.high is.high_tie) rel.sim.high_is;
     }
+
+    pub gate_computes : (g : PatchGate) → Has order.gates g → Computed N' g.output g.table (map Some g.inputs)
+    gate_computes g h = record {
+      unsupplied = output_net label place (bare base) N N' order keeps new g h;
+      comp = patch_name label g.name;
+      pin = output_pin;
+      gate = patch_component g (place g.name);
+      is = in_gate label place (bare base) N N' order keeps new g h;
+      driver = record { drives = new_drives g h; only = λ q d. keeps.one_driver g.output (redriven_gate N order g h) q (CompPin (patch_name label g.name) output_pin) d (new_drives g h) };
+      at = (patch_drives g (place g.name)).at;
+      reads = patch_reads g (place g.name);
+    }
+
+    pub spare_computes : (e : Pair) → Has pairs e → (x : Component) → get base.full.comps e.1.spare ≡ Some x → (chosen : List Bool) × (role_of x e.1.output ≡ Some (Computes chosen)) × Computed M' e.0.output chosen (map (feed_net base.low base.high e.0.inputs) e.1.feeds)
+    spare_computes e h x f =
+        let r = free_spare e h in
+        let distinct = inputs_distinct r.0.kind (is.whole.names e.1.spare r.0 r.2) in
+        let s : r.0 ≡ x = same_Some (sym r.2 ∙ f) in (
+          r.4.chosen,
+          subst (λ z. role_of z e.1.output ≡ Some (Computes r.4.chosen)) s r.4.is_output,
+          record {
+            unsupplied = subst (λ m. get m e.0.output ≡ Some None) sim_after.nets (new_in_place e h).unsupplied;
+            comp = e.1.spare;
+            pin = e.1.output;
+            gate = serving base.low base.high e.0 e.1 r.0 r.3 distinct r.4;
+            is = spare_after e h r.0 r.1;
+            driver = spare_driver base.low base.high N' M' (new_uses ++ uses) sim_after (new_use e) (has_append_left new_uses uses _ (has_map new_use pairs e h));
+            at = r.4.is_output;
+            reads = serving_reads base.low base.high e.0 e.1 r.0 r.3 distinct r.4;
+          },
+        )
 
     pub step : Related base N' M' (label ∷ names) (spare_names placements ++ used) (new_uses ++ uses)
     step = record {

@@ -3,7 +3,8 @@ use Rattle.std.specs.Prelude.{◌≡◌, Bool, ◌&&◌, ◌⊎◌, List, [], �
 use Rattle.std.specs.List.{Contains, IsDistinct}
 use Rattle.std.specs.Ordering.{eq_by_cmp}
 use Rattle.std.specs.FinMap.{FinMap, get, insert}
-use Rattle.eco_net.specs.Netlist.{Name, name_cmp, Netlist, Component, IsNet, IsPin}
+use Rattle.eco_text.specs.declared.geometry.Point.{Point}
+use Rattle.eco_net.specs.Netlist.{Name, name_cmp, Netlist, Kind, Component, IsNet, IsPin}
 
 -- a component's pin, and the net that it is put on
 pub record Joint : Type 0 where
@@ -28,6 +29,10 @@ put_joints m (j ∷ js) = put_on (put_joints m js) j (get (put_joints m js) j.co
 -- the netlist with these new nets and with these pins on their nets
 abbrev pub with_joints : Netlist → List Joint → List Name → Netlist
 with_joints N joints nets = record N { nets = with_nets N.nets nets; comps = put_joints N.comps joints }
+
+-- what no joint changes of a component
+abbrev pub frame : Component → Kind × Option Point
+frame x = (x.kind, x.place)
 
 -- the joints are of one pin
 abbrev pub same_pin : Joint → Joint → Bool

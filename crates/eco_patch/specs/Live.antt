@@ -1,13 +1,14 @@
 -- Several orders live on one base, one after another.
-use Rattle.std.specs.Prelude.{◌≢◌, cond, List, [], ◌∷◌, Option, Some, None}
+use Rattle.std.specs.Prelude.{◌≢◌, cond, List, [], ◌∷◌, ◌++◌, Option, Some, None}
 use Rattle.std.specs.List.{Contains}
 use Rattle.std.specs.Ordering.{eq_by_cmp}
 use Rattle.std.specs.FinMap.{get}
 use Rattle.eco_text.specs.declared.geometry.Point.{Point}
 use Rattle.eco_net.specs.Netlist.{Name, name_cmp, Netlist, Component}
 use Rattle.eco_patch.specs.Orders.{Order, Placement}
+use Rattle.eco_patch.specs.Joints.{Joint}
 use Rattle.eco_patch.specs.Insertion.{inserted}
-use Rattle.eco_patch.specs.Realisation.{realised}
+use Rattle.eco_patch.specs.Realisation.{patch_joints, realised}
 use Rattle.eco_patch.specs.Bases.{Base, bare, HasBlank}
 use Rattle.eco_patch.specs.Rules.{KeepsRules}
 use Rattle.eco_patch.specs.Mappings.{IsMapping, spares_of}
@@ -44,6 +45,15 @@ abstract base live = inserted_all base (bare base) live
 -- the live commits' gates as spares, from the whole base
 abbrev pub concrete : Base → List Commit → Netlist
 concrete base live = realised_all base base.full live
+
+-- all pins that the live commits put on other nets, those of the last commit first
+abbrev pub live_joints : Base → List Commit → List Joint
+live_joints base [] = []
+live_joints base (c ∷ cs) = live_joints base cs ++ patch_joints base.low base.high base.full c.order c.placements
+
+abbrev pub live_nets : List Commit → List Name
+live_nets [] = []
+live_nets (c ∷ cs) = live_nets cs ++ c.order.nets
 
 -- the order under test, with gates that no live order has
 abbrev pub under_test : Netlist → Order → Netlist

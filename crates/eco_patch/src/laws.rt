@@ -1,4 +1,14 @@
-ghost use Rattle.eco_patch.specs.Laws.{BaseTakesJoints, FreeStockRests, LiveMeansSame, LoneIsPatch, NothingLive, PatchMeansSame, SameValuations, WithoutIsLoopFree};
+ghost use Rattle.eco_patch.specs.Laws.{BaseTakesJoints, ComponentsStay, FreeStockRests, GatesCompute, JointsJoin, LiveJoints, LiveMeansSame, LoneIsPatch, NetsJoin, NothingLive, OtherNetsStay, OtherPinsStay, PatchMeansSame, SameValuations, SparesCompute, WithoutIsLoopFree};
+
+/// A law: joints put their pins on their nets, and leave all other pins, each component's kind and place, and all nets but the
+/// new ones as they were.
+pub fn joints_join()
+    ensures pins { JointsJoin }
+    ensures other_pins { OtherPinsStay }
+    ensures components { ComponentsStay }
+    ensures nets { NetsJoin }
+    ensures other_nets { OtherNetsStay }
+{}
 
 /// A law: a map from nets to bits is a valuation of the base with an order's gates inserted exactly where it is one of the
 /// base with the spares in their place, for each choice of cut bits.
@@ -10,6 +20,13 @@ pub fn same_valuations()
 /// valuation, which is the same and has the same value at each observable.
 pub fn patch_means_same()
     ensures { PatchMeansSame }
+{}
+
+/// A law: a gate that is inserted computes its output net by its table of its input nets, and a spare in its place computes it
+/// by the table of the chosen output of the nets that feed its pins.
+pub fn outputs_are_computed()
+    ensures gates { GatesCompute }
+    ensures spares { SparesCompute }
 {}
 
 /// A law: one gate on a new net, which one input pin goes to, with its embedding in one spare, is an order that the laws above
@@ -24,14 +41,16 @@ pub fn base_takes_joints()
     ensures { BaseTakesJoints }
 {}
 
-/// A law: so do those of several live orders, inserted one after another on the base without its stock and realised one after
+/// A law: several live orders, inserted one after another on the base without its stock, mean the same as realised one after
 /// another on the whole base.
 pub fn live_means_same()
     ensures { LiveMeansSame }
 {}
 
-/// A law: a stock component that no live order has stands as in the base, and with no live order the whole base does.
-pub fn free_stock_rests()
+/// A law: several live orders realised are the base with joints put on it. A stock component that no live order has stands as
+/// in the base, and with no live order the whole base does.
+pub fn live_joints_join()
+    ensures joints { LiveJoints }
     ensures rests { FreeStockRests }
     ensures none { NothingLive }
 {}

@@ -7,6 +7,6 @@
 mod laws;
 
 pub use crate::laws::{
-    base_takes_joints, free_stock_rests, live_means_same, lone_is_patch, patch_means_same,
-    same_valuations, without_is_loop_free,
+    base_takes_joints, joints_join, live_joints_join, live_means_same, lone_is_patch,
+    outputs_are_computed, patch_means_same, same_valuations, without_is_loop_free,
 };
