@@ -17,3 +17,4 @@ pub mod Lighter
 pub mod Taking
 pub mod Alone
 pub mod Pins
+pub mod Beside

@@ -81,6 +81,12 @@ SparesCompute =
     → (g : PatchGate) (p : Placement) (x : Component) → Contains (zip order.gates placements) (g, p) → get base.full.comps p.spare ≡ Some x
     → (chosen : List Bool) × (role_of x p.output ≡ Some (Computes chosen)) × Computed (realised base.low base.high base.full order placements) g.output chosen (map (feed_net base.low base.high g.inputs) p.feeds)
 
+-- the gates may as well be inserted on the base with its stock in place, which drives nothing
+abbrev pub StockIsBeside : Type 0
+StockIsBeside =
+    (base : Base) (label : Name) (place : Name → Option Point) (order : Order) (placements : List Placement) → IsPatch base label place order placements
+    → IsWithout (inserted label place base.full order) (inserted label place (bare base) order)
+
 -- the joints that realise a patch are ones that the base can take
 abbrev pub BaseTakesJoints : Type 0
 BaseTakesJoints =
@@ -111,3 +117,7 @@ LiveJoints = (base : Base) (live : List Commit) → concrete base live ≡ with_
 -- taking away components that drive nothing makes no loop
 abbrev pub WithoutIsLoopFree : Type 0
 WithoutIsLoopFree = (M N : Netlist) → IsWithout M N → IsLoopFree M → IsLoopFree N
+
+-- nor does it change what is computed
+abbrev pub WithoutComputesSame : Type 0
+WithoutComputesSame = (M N : Netlist) → IsWithout M N → (cut : CutBits) (v : Valuation) → IsValuation N cut v ↔ IsValuation M cut v

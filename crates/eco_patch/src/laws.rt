@@ -1,4 +1,4 @@
-ghost use Rattle.eco_patch.specs.Laws.{BaseTakesJoints, ComponentsStay, FreeStockRests, GatesCompute, JointsJoin, LiveJoints, LiveMeansSame, LoneIsPatch, NetsJoin, NothingLive, OtherNetsStay, OtherPinsStay, PatchMeansSame, SameValuations, SparesCompute, WithoutIsLoopFree};
+ghost use Rattle.eco_patch.specs.Laws.{BaseTakesJoints, ComponentsStay, FreeStockRests, GatesCompute, JointsJoin, LiveJoints, LiveMeansSame, LoneIsPatch, NetsJoin, NothingLive, OtherNetsStay, OtherPinsStay, PatchMeansSame, SameValuations, SparesCompute, StockIsBeside, WithoutComputesSame, WithoutIsLoopFree};
 
 /// A law: joints put their pins on their nets, and leave all other pins, each component's kind and place, and all nets but the
 /// new ones as they were.
@@ -55,7 +55,10 @@ pub fn live_joints_join()
     ensures none { NothingLive }
 {}
 
-/// A law: taking away components that drive nothing makes no loop.
-pub fn without_is_loop_free()
-    ensures { WithoutIsLoopFree }
+/// A law: taking away components that drive nothing makes no loop and changes no valuation. So an order's gates may as well be
+/// inserted on the base with its stock in place.
+pub fn without_means_same()
+    ensures loops { WithoutIsLoopFree }
+    ensures valuations { WithoutComputesSame }
+    ensures stock { StockIsBeside }
 {}

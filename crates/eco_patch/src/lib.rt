@@ -8,5 +8,5 @@ mod laws;
 
 pub use crate::laws::{
     base_takes_joints, joints_join, live_joints_join, live_means_same, lone_is_patch,
-    outputs_are_computed, patch_means_same, same_valuations, without_is_loop_free,
+    outputs_are_computed, patch_means_same, same_valuations, without_means_same,
 };
