@@ -1,16 +1,18 @@
--- An order inserted on the base with its stock in place: the stock stands beside and drives nothing
-use Rattle.std.proofs.Common.{◌≡◌, ◌≢◌, false, List, map, Option, Some, refl, sym, ap, ◌∙◌, subst, inl, inr, ⊎_elim, ◌⊎◌}
+-- An order inserted: the stock beside it drives nothing, moved pins are on their new nets, and others stay
+use Rattle.std.proofs.Common.{◌≡◌, ◌≢◌, false, List, map, Option, Some, refl, sym, ap, ap₂, ◌∙◌, subst, inl, inr, ⊎_elim, ◌⊎◌}
 use Rattle.std.specs.FinMap.{FinMap, get}
+use Rattle.std.specs.List.{Contains}
 use Rattle.eco_text.specs.declared.geometry.Point.{Point}
-use Rattle.eco_net.specs.Netlist.{Name, name_cmp, Netlist, Component}
-use Rattle.eco_net.specs.Drivers.{driven_at}
-use Rattle.eco_net.proofs.Basics.{Has, same_Some, not_None, contains_from_has}
+use Rattle.eco_net.specs.Netlist.{Name, name_cmp, Netlist, Component, CompPin}
+use Rattle.eco_net.specs.Drivers.{driven_at, net_of, joined_at}
+use Rattle.eco_net.proofs.Basics.{Has, same_Some, not_None, contains_from_has, has_from_contains, has_map, has_of_map}
 use Rattle.eco_patch.specs.Orders.{PatchGate, Move, Order, Placement}
 use Rattle.eco_patch.specs.Insertion.{patch_name, patch_component, with_gates, move_joint, inserted}
 use Rattle.eco_patch.specs.Bases.{Base, IsSpare, IsWithout, bare, is_stock}
 use Rattle.eco_patch.specs.Laws.{IsPatch}
 use Rattle.eco_patch.proofs.Names.{has_blank}
-use Rattle.eco_patch.proofs.Joining.{joined_same}
+use Rattle.eco_patch.proofs.Joining.{rejoin, joined_some, joined_same, joined_old}
+use Rattle.eco_patch.proofs.Pins.{its_net}
 use Rattle.eco_patch.proofs.Feeding.{spare_idle}
 use Rattle.eco_patch.proofs.Keeping.{gate_of_name}
 use Rattle.eco_patch.proofs.Inserting.{moved, moved_back, moved_not, gates_cases, gates_in, gates_other}
@@ -71,3 +73,26 @@ module _ (base : Base) (label : Name) (place : Name → Option Point) (order : O
 
   pub stock_beside : IsWithout W N
   stock_beside = record { nets = refl; tops = refl; kept = kept; others = others }
+
+  -- ---- pins of the base with the gates inserted
+
+  old_stays : (c : Name) (x : Component) → get (bare base).comps c ≡ Some x → get N.comps c ≡ Some (rejoin (map move_joint order.moves) c x)
+  old_stays c x e =
+      gates_other label place (moved (bare base).comps order.moves) order.gates c (no_gate c x (in_full base c x e))
+      ∙ joined_some (bare base).comps (map move_joint order.moves) c x e
+
+  pub moves_arrive : (m : Move) → Contains order.moves m → net_of N (CompPin m.comp m.pin) ≡ Some m.to
+  moves_arrive m c =
+      let x = p.keeps.pins_known m c in
+      ap (λ o. joined_at o m.pin) (old_stays m.comp x.0 x.1)
+      ∙ its_net (map move_joint order.moves) x.0.joined (move_joint m) p.keeps.once.moves (has_map move_joint order.moves m (has_from_contains order.moves m c))
+
+  pub others_remain : (c : Name) (x : Component) (q : Name) → get (bare base).comps c ≡ Some x → ((m : Move) → Contains order.moves m → CompPin m.comp m.pin ≢ CompPin c q) → net_of N (CompPin c q) ≡ get x.joined q
+  others_remain c x q e h =
+      ap (λ o. joined_at o q) (old_stays c x e)
+      ∙ ⊎_elim
+      (λ s. s)
+      (λ j.
+      let m = has_of_map move_joint order.moves j.0 j.1 in
+      absurd (h m.0 (contains_from_has order.moves m.0 m.1) (ap₂ CompPin (ap (λ z. z.comp) m.2 ∙ j.2) (ap (λ z. z.pin) m.2 ∙ j.3))))
+      (joined_old (map move_joint order.moves) c x.joined q)

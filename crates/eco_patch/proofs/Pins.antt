@@ -25,7 +25,7 @@ not_again k j [] a h = absurd h
 not_again k j (i ∷ js) a (inl e) = subst (λ z. same_pin k z ≡ false) e a.0
 not_again k j (i ∷ js) a (inr h) = not_again k j js a.1 h
 
-its_net : (js : List Joint) (m : FinMap name_cmp Name) (j : Joint) → IsDistinct same_pin js → Has js j → get (rejoined js j.comp m) j.pin ≡ Some j.net
+pub its_net : (js : List Joint) (m : FinMap name_cmp Name) (j : Joint) → IsDistinct same_pin js → Has js j → get (rejoined js j.comp m) j.pin ≡ Some j.net
 unfolding IsDistinct
 its_net [] m j d h = absurd h
 its_net (k ∷ js) m j d (inl e) =

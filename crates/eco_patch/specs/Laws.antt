@@ -68,6 +68,19 @@ PatchMeansSame =
     (base : Base) (label : Name) (place : Name → Option Point) (order : Order) (placements : List Placement) → IsPatch base label place order placements
     → SameMeaning (inserted label place (bare base) order) (realised base.low base.high base.full order placements)
 
+-- where the gates are inserted, a moved pin is on the net that it goes to
+abbrev pub MovesArrive : Type 0
+MovesArrive =
+    (base : Base) (label : Name) (place : Name → Option Point) (order : Order) (placements : List Placement) → IsPatch base label place order placements
+    → (m : Move) → Contains order.moves m → net_of (inserted label place (bare base) order) (CompPin m.comp m.pin) ≡ Some m.to
+
+-- and any other pin where it was
+abbrev pub OthersRemain : Type 0
+OthersRemain =
+    (base : Base) (label : Name) (place : Name → Option Point) (order : Order) (placements : List Placement) → IsPatch base label place order placements
+    → (c : Name) (x : Component) (q : Name) → get (bare base).comps c ≡ Some x → ((m : Move) → Contains order.moves m → CompPin m.comp m.pin ≢ CompPin c q)
+    → net_of (inserted label place (bare base) order) (CompPin c q) ≡ get x.joined q
+
 -- where a gate is inserted, its output is computed by its table of its inputs
 abbrev pub GatesCompute : Type 0
 GatesCompute =

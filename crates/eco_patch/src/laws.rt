@@ -1,4 +1,4 @@
-ghost use Rattle.eco_patch.specs.Laws.{BaseTakesJoints, ComponentsStay, FreeStockRests, GatesCompute, JointsJoin, LiveJoints, LiveMeansSame, LoneIsPatch, NetsJoin, NothingLive, OtherNetsStay, OtherPinsStay, PatchMeansSame, SameValuations, SparesCompute, StockIsBeside, WithoutComputesSame, WithoutIsLoopFree};
+ghost use Rattle.eco_patch.specs.Laws.{BaseTakesJoints, ComponentsStay, FreeStockRests, GatesCompute, JointsJoin, LiveJoints, LiveMeansSame, LoneIsPatch, MovesArrive, NetsJoin, NothingLive, OtherNetsStay, OtherPinsStay, OthersRemain, PatchMeansSame, SameValuations, SparesCompute, StockIsBeside, WithoutComputesSame, WithoutIsLoopFree};
 
 /// A law: joints put their pins on their nets, and leave all other pins, each component's kind and place, and all nets but the
 /// new ones as they were.
@@ -20,6 +20,13 @@ pub fn same_valuations()
 /// valuation, which is the same and has the same value at each observable.
 pub fn patch_means_same()
     ensures { PatchMeansSame }
+{}
+
+/// A law: where an order's gates are inserted, each moved pin is on the net that it goes to, and each other pin of the base
+/// where it was.
+pub fn moves_arrive()
+    ensures moved { MovesArrive }
+    ensures others { OthersRemain }
 {}
 
 /// A law: a gate that is inserted computes its output net by its table of its input nets, and a spare in its place computes it
