@@ -72,7 +72,7 @@ put_twice : (A : FinMap name_cmp Component) (js ks : List Joint) → put_joints 
 put_twice A [] ks = refl
 put_twice A (j ∷ js) ks = ap (λ m. put_on m j (get m j.comp)) (put_twice A js ks)
 
-add_twice : (m : FinMap name_cmp (Option Bool)) (ns ms : List Name) → with_nets (with_nets m ms) ns ≡ with_nets m (ns ++ ms)
+pub add_twice : (m : FinMap name_cmp (Option Bool)) (ns ms : List Name) → with_nets (with_nets m ms) ns ≡ with_nets m (ns ++ ms)
 add_twice m [] ms = refl
 add_twice m (n ∷ ns) ms = ap (λ z. insert z n None) (add_twice m ns ms)
 

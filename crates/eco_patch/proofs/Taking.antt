@@ -12,8 +12,9 @@ use Rattle.eco_patch.specs.Joints.{Joint, same_pin, Takes}
 use Rattle.eco_patch.specs.Insertion.{move_joint}
 use Rattle.eco_patch.specs.Realisation.{feed_net, on_pin, feed_joints, spare_joints, all_spare_joints, patch_joints}
 use Rattle.eco_patch.specs.Embeddings.{Embeds}
-use Rattle.eco_patch.specs.Bases.{Base, IsConstant, IsSpare, bare}
-use Rattle.eco_patch.specs.Rules.{as_input, as_output, as_goal}
+use Rattle.eco_patch.specs.Bases.{Base, IsBase, IsConstant, IsSpare, bare}
+use Rattle.eco_patch.specs.Rules.{PinsAreKnown, Names, as_input, as_output, as_goal}
+use Rattle.eco_patch.specs.Mappings.{IsMapping}
 use Rattle.eco_patch.specs.Laws.{IsPatch}
 use Rattle.eco_patch.proofs.Names.{has_of_append, not_first}
 use Rattle.eco_patch.proofs.Gates.{inputs_distinct}
@@ -32,7 +33,7 @@ all_append : {A : Type 0} (P : A → Type 0) (xs ys : List A) → AllByRecursion
 all_append P [] ys a b = b
 all_append P (x ∷ xs) ys a b = (a.0, all_append P xs ys a.1 b)
 
-distinct_append : {A : Type 0} (e : A → A → Bool) (xs ys : List A) → IsDistinct e xs → IsDistinct e ys → ((x y : A) → Has xs x → Has ys y → e x y ≡ false) → IsDistinct e (xs ++ ys)
+pub distinct_append : {A : Type 0} (e : A → A → Bool) (xs ys : List A) → IsDistinct e xs → IsDistinct e ys → ((x y : A) → Has xs x → Has ys y → e x y ≡ false) → IsDistinct e (xs ++ ys)
 unfolding IsDistinct
 distinct_append e [] ys d f h = f
 distinct_append e (x ∷ xs) ys d f h = (all_append _ xs ys d.0 (all_has _ ys (λ y i. h x y (inl refl) i)), distinct_append e xs ys d.1 f (λ z y i j. h z y (inr i) j))
@@ -105,7 +106,7 @@ got_name (m ∷ ns) (suc i) n e = inr (got_name ns i n e)
 
 -- ---- all joints of a patch
 
-module _ (base : Base) (label : Name) (place : Name → Option Point) (order : Order) (placements : List Placement) (p : IsPatch base label place order placements) where
+module _ (base : Base) (is : IsBase base) (order : Order) (placements : List Placement) (mapping : IsMapping base order placements) (pins_known : PinsAreKnown (bare base) order) where
   abbrev pairs : List Pair
   pairs = pairs_of order placements
 
@@ -113,10 +114,10 @@ module _ (base : Base) (label : Name) (place : Name → Option Point) (order : O
   spares es = all_spare_joints base.low base.high base.full es
 
   its : Mapped base [] order placements
-  its = mapped_from base [] order placements p.mapped (λ s h k. k)
+  its = mapped_from base [] order placements mapping (λ s h k. k)
 
   spare_is : (e : Pair) → Has pairs e → (x : Component) × (get base.full.comps e.1.spare ≡ Some x) × IsSpare x
-  spare_is e h = p.base_is.stock e.1.spare (contains_from_has base.stock e.1.spare (its.stock e h))
+  spare_is e h = is.stock e.1.spare (contains_from_has base.stock e.1.spare (its.stock e h))
 
   -- ---- each of another pin
 
@@ -125,7 +126,7 @@ module _ (base : Base) (label : Name) (place : Name → Option Point) (order : O
   spare_apart e h =
       let r = spare_is e h in
       let m = its.embeds e r.0 h r.1 in
-      subst (λ o. IsDistinct same_pin (spare_joints base.low base.high e.0 e.1 o)) (sym r.1) (go r.0 r.2 m (inputs_distinct r.0.kind (p.base_is.whole.names e.1.spare r.0 r.1)))
+      subst (λ o. IsDistinct same_pin (spare_joints base.low base.high e.0 e.1 o)) (sym r.1) (go r.0 r.2 m (inputs_distinct r.0.kind (is.whole.names e.1.spare r.0 r.1)))
     where
       go : (x : Component) (s : IsSpare x) → Embeds (length e.0.inputs) e.0.table x e.1.output e.1.feeds → IsDistinct (eq_by_cmp name_cmp) (input_names x.kind) → IsDistinct same_pin (spare_joints base.low base.high e.0 e.1 (Some x))
       go x s m d = (
@@ -148,62 +149,68 @@ module _ (base : Base) (label : Name) (place : Name → Option Point) (order : O
   move_of : (j : Joint) → Has (map move_joint order.moves) j → (m : Move) × Contains order.moves m × (move_joint m ≡ j)
   move_of j h = let m = has_of_map move_joint order.moves j h in (m.0, contains_from_has order.moves m.0 m.1, m.2)
 
-  once : IsDistinct same_pin (patch_joints base.low base.high base.full order placements)
-  once = distinct_append same_pin (map move_joint order.moves) (spares pairs) p.keeps.once.moves (spares_once pairs (λ e h. h) its.apart)
+  pub once : IsDistinct same_pin (map move_joint order.moves) → IsDistinct same_pin (patch_joints base.low base.high base.full order placements)
+  once moves = distinct_append same_pin (map move_joint order.moves) (spares pairs) moves (spares_once pairs (λ e h. h) its.apart)
       (λ j k h i.
       let m = move_of j h in
-      let x = p.keeps.pins_known m.0 m.1 in
+      let x = pins_known m.0 m.1 in
       let r = spares_joint base.low base.high base.full pairs k i in
       other_comp j k (λ t. not_None (sym x.1 ∙ ap (get (bare base).comps) (ap (λ z. z.comp) m.2 ∙ t ∙ r.2) ∙ bare_stock base r.0.1.spare (its.stock r.0 r.1))))
 
   -- ---- pins and nets
 
-  abbrev IsKnownNet : Name → Type 0
-  IsKnownNet n = IsNet base.full n ⊎ Contains order.nets n
+  module _ (Known : Name → Type 0) (low_known : Known base.low) (high_known : Known base.high) (known : (n : Name) → Names order n → Known n) where
+    fed_known : (g : PatchGate) → Has order.gates g → (n : Name) (f : Feed) → feed_net base.low base.high g.inputs f ≡ Some n → Known n
+    fed_known g h n Zero e = subst Known (same_Some e) low_known
+    fed_known g h n One e = subst Known (same_Some e) high_known
+    fed_known g h n (FromInput i) e = known n (as_input g (contains_from_has order.gates g h) (contains_from_has g.inputs n (got_name g.inputs i n e)))
 
-  fed_known : (g : PatchGate) → Has order.gates g → (n : Name) (f : Feed) → feed_net base.low base.high g.inputs f ≡ Some n → IsKnownNet n
-  fed_known g h n Zero e = inl (subst (IsNet base.full) (same_Some e) (constant_net (bare base) base.low false p.base_is.low_is))
-  fed_known g h n One e = inl (subst (IsNet base.full) (same_Some e) (constant_net (bare base) base.high true p.base_is.high_is))
-  fed_known g h n (FromInput i) e = p.keeps.nets_known n (as_input g (contains_from_has order.gates g h) (contains_from_has g.inputs n (got_name g.inputs i n e)))
+    abbrev pub IsTaken : Joint → Type 0
+    IsTaken j = ((x : Component) × (get base.full.comps j.comp ≡ Some x) × IsPin x j.pin) × Known j.net
 
-  abbrev IsTaken : Joint → Type 0
-  IsTaken j = ((x : Component) × (get base.full.comps j.comp ≡ Some x) × IsPin x j.pin) × IsKnownNet j.net
+    move_taken : (j : Joint) → Has (map move_joint order.moves) j → IsTaken j
+    move_taken j h =
+        let m = move_of j h in
+        let x = pins_known m.0 m.1 in
+        subst IsTaken m.2 ((x.0, in_full base m.0.comp x.0 x.1, x.2), known m.0.to (as_goal m.0 m.1 refl))
 
-  move_taken : (j : Joint) → Has (map move_joint order.moves) j → IsTaken j
-  move_taken j h =
-      let m = move_of j h in
-      let x = p.keeps.pins_known m.0 m.1 in
-      subst IsTaken m.2 ((x.0, in_full base m.0.comp x.0 x.1, x.2), p.keeps.nets_known m.0.to (as_goal m.0 m.1 refl))
+    spare_taken : (e : Pair) → Has pairs e → (j : Joint) → Has (joints_of base.low base.high base.full e) j → IsTaken j
+    spare_taken e h j i =
+        let r = spare_is e h in
+        go r.0 r.1 (its.embeds e r.0 h r.1) (subst (λ o. Has (spare_joints base.low base.high e.0 e.1 o) j) r.1 i)
+      where
+        gate : Has order.gates e.0
+        gate = zip_left order.gates placements e h
 
-  spare_taken : (e : Pair) → Has pairs e → (j : Joint) → Has (joints_of base.low base.high base.full e) j → IsTaken j
-  spare_taken e h j i =
-      let r = spare_is e h in
-      go r.0 r.1 (its.embeds e r.0 h r.1) (subst (λ o. Has (spare_joints base.low base.high e.0 e.1 o) j) r.1 i)
-    where
-      gate : Has order.gates e.0
-      gate = zip_left order.gates placements e h
+        go : (x : Component) → get base.full.comps e.1.spare ≡ Some x → Embeds (length e.0.inputs) e.0.table x e.1.output e.1.feeds → Has (spare_joints base.low base.high e.0 e.1 (Some x)) j → IsTaken j
+        go x f m (inl s) = subst IsTaken s ((x, f, (Computes m.chosen, m.is_output)), known e.0.output (as_output e.0 (contains_from_has order.gates e.0 gate) refl))
+        go x f m (inr k) =
+            let q = feeding_pin base.low base.high e.0 e.1.spare (input_names x.kind) e.1.feeds j k in
+            let n = feeding_net base.low base.high e.0 e.1.spare (input_names x.kind) e.1.feeds j k in
+            ((x, ap (get base.full.comps) q.0 ∙ f, input_is_pin x j.pin q.1), fed_known e.0 gate j.net n.0 n.1)
 
-      go : (x : Component) → get base.full.comps e.1.spare ≡ Some x → Embeds (length e.0.inputs) e.0.table x e.1.output e.1.feeds → Has (spare_joints base.low base.high e.0 e.1 (Some x)) j → IsTaken j
-      go x f m (inl s) = subst IsTaken s ((x, f, (Computes m.chosen, m.is_output)), p.keeps.nets_known e.0.output (as_output e.0 (contains_from_has order.gates e.0 gate) refl))
-      go x f m (inr k) =
-          let q = feeding_pin base.low base.high e.0 e.1.spare (input_names x.kind) e.1.feeds j k in
-          let n = feeding_net base.low base.high e.0 e.1.spare (input_names x.kind) e.1.feeds j k in
-          ((x, ap (get base.full.comps) q.0 ∙ f, input_is_pin x j.pin q.1), fed_known e.0 gate j.net n.0 n.1)
+    spares_taken : (es : List Pair) → ((e : Pair) → Has es e → Has pairs e) → (j : Joint) → Has (spares es) j → IsTaken j
+    spares_taken [] h j i = absurd i
+    spares_taken (e ∷ es) h j i =
+        ⊎_elim
+        (λ k. spare_taken e (h e (inl refl)) j k)
+        (λ k. spares_taken es (λ d l. h d (inr l)) j k)
+        (has_of_append (joints_of base.low base.high base.full e) (spares es) j i)
 
-  spares_taken : (es : List Pair) → ((e : Pair) → Has es e → Has pairs e) → (j : Joint) → Has (spares es) j → IsTaken j
-  spares_taken [] h j i = absurd i
-  spares_taken (e ∷ es) h j i =
-      ⊎_elim
-      (λ k. spare_taken e (h e (inl refl)) j k)
-      (λ k. spares_taken es (λ d l. h d (inr l)) j k)
-      (has_of_append (joints_of base.low base.high base.full e) (spares es) j i)
+    pub all_taken : (j : Joint) → Contains (patch_joints base.low base.high base.full order placements) j → IsTaken j
+    all_taken j c =
+        ⊎_elim
+        (λ k. move_taken j k)
+        (λ k. spares_taken pairs (λ e h. h) j k)
+        (has_of_append (map move_joint order.moves) (spares pairs) j (has_from_contains (patch_joints base.low base.high base.full order placements) j c))
 
-  all_taken : (j : Joint) → Contains (patch_joints base.low base.high base.full order placements) j → IsTaken j
-  all_taken j c =
-      ⊎_elim
-      (λ k. move_taken j k)
-      (λ k. spares_taken pairs (λ e h. h) j k)
-      (has_of_append (map move_joint order.moves) (spares pairs) j (has_from_contains (patch_joints base.low base.high base.full order placements) j c))
+pub low_net : (base : Base) → IsBase base → IsNet base.full base.low
+low_net base is = constant_net (bare base) base.low false is.low_is
 
-  pub base_takes_joints : Takes base.full order.nets (patch_joints base.low base.high base.full order placements)
-  base_takes_joints = record { once = once; pins = λ j c. (all_taken j c).0; nets_known = λ j c. (all_taken j c).1 }
+pub high_net : (base : Base) → IsBase base → IsNet base.full base.high
+high_net base is = constant_net (bare base) base.high true is.high_is
+
+pub base_takes_joints : (base : Base) (label : Name) (place : Name → Option Point) (order : Order) (placements : List Placement) → IsPatch base label place order placements → Takes base.full order.nets (patch_joints base.low base.high base.full order placements)
+base_takes_joints base label place order placements p =
+    let taken = all_taken base p.base_is order placements p.mapped p.keeps.pins_known (λ n. IsNet base.full n ⊎ Contains order.nets n) (inl (low_net base p.base_is)) (inl (high_net base p.base_is)) p.keeps.nets_known in
+    record { once = once base p.base_is order placements p.mapped p.keeps.pins_known p.keeps.once.moves; pins = λ j c. (taken j c).0; nets_known = λ j c. (taken j c).1 }

@@ -1,6 +1,6 @@
 -- A netlist with pins put on nets: what an order's metal does to the base, where no component comes, goes or changes place.
-use Rattle.std.specs.Prelude.{◌≡◌, Bool, ◌&&◌, ◌⊎◌, List, [], ◌∷◌, Option, Some, None}
-use Rattle.std.specs.List.{Contains, IsDistinct}
+use Rattle.std.specs.Prelude.{◌≡◌, Bool, not, ◌&&◌, ◌⊎◌, List, [], ◌∷◌, Option, Some, None}
+use Rattle.std.specs.List.{Contains, IsDistinct, filter}
 use Rattle.std.specs.Ordering.{eq_by_cmp}
 use Rattle.std.specs.FinMap.{FinMap, get, insert}
 use Rattle.eco_text.specs.declared.geometry.Point.{Point}
@@ -37,6 +37,11 @@ frame x = (x.kind, x.place)
 -- the joints are of one pin
 abbrev pub same_pin : Joint → Joint → Bool
 same_pin j k = eq_by_cmp name_cmp j.comp k.comp && eq_by_cmp name_cmp j.pin k.pin
+
+-- of each pin the first joint, which is the one that counts
+abbrev pub first_each : List Joint → List Joint
+first_each [] = []
+first_each (j ∷ js) = j ∷ filter (λ k. not (same_pin j k)) (first_each js)
 
 -- Joints that a netlist can take beside these new nets: each is of another pin, its component has the pin, and its net is one
 -- of the netlist or a new one.

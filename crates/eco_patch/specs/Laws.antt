@@ -1,16 +1,17 @@
 -- A patch gate and a spare in its place compute the same.
 use Rattle.std.specs.Prelude.{◌≡◌, ◌≢◌, Bool, List, [], ◌∷◌, map, Option, Some, None, ◌↔◌}
 use Rattle.std.specs.Option.{option_map}
-use Rattle.std.specs.List.{Contains, zip}
+use Rattle.std.specs.List.{Contains, IsDistinct, zip}
+use Rattle.std.specs.Ordering.{eq_by_cmp}
 use Rattle.std.specs.FinMap.{get}
 use Rattle.eco_text.specs.declared.geometry.Point.{Point}
-use Rattle.eco_net.specs.Netlist.{Name, Netlist, Component, Computes, role_of, Pin, CompPin}
+use Rattle.eco_net.specs.Netlist.{Name, name_cmp, Netlist, Component, Computes, role_of, Pin, CompPin}
 use Rattle.eco_net.specs.Drivers.{Computed, net_of}
 use Rattle.eco_net.specs.CutKeys.{CutBits}
 use Rattle.eco_net.specs.Valuation.{Valuation, IsValuation}
 use Rattle.eco_net.specs.Walks.{IsLoopFree}
 use Rattle.eco_patch.specs.Orders.{PatchGate, Move, Order, Placement}
-use Rattle.eco_patch.specs.Joints.{Joint, with_joints, frame, Takes}
+use Rattle.eco_patch.specs.Joints.{Joint, with_joints, frame, first_each, Takes}
 use Rattle.eco_patch.specs.Insertion.{inserted}
 use Rattle.eco_patch.specs.Realisation.{feed_net, patch_joints, realised}
 use Rattle.eco_patch.specs.Bases.{Base, IsBase, IsWithout, bare, HasBlank}
@@ -29,6 +30,10 @@ JointsJoin = (N : Netlist) (joints : List Joint) (nets : List Name) → Takes N 
 -- a pin without one is where it was
 abbrev pub OtherPinsStay : Type 0
 OtherPinsStay = (N : Netlist) (joints : List Joint) (nets : List Name) (p : Pin) → ((j : Joint) → Contains joints j → p ≢ CompPin j.comp j.pin) → net_of (with_joints N joints nets) p ≡ net_of N p
+
+-- of two joints of one pin the first counts
+abbrev pub FirstCounts : Type 0
+FirstCounts = (N : Netlist) (joints : List Joint) (nets : List Name) → with_joints N (first_each joints) nets ≡ with_joints N joints nets
 
 -- no component is added, taken away, changed in kind or placed anew
 abbrev pub ComponentsStay : Type 0
@@ -124,6 +129,16 @@ NothingLive = (base : Base) → concrete base [] ≡ base.full
 -- the live orders' pins put on nets, all on the base
 abbrev pub LiveJoints : Type 0
 LiveJoints = (base : Base) (live : List Commit) → concrete base live ≡ with_joints base.full (live_joints base live) (live_nets live)
+
+-- of each pin the last order's joint is one that the base can take
+abbrev pub BaseTakesLive : Type 0
+BaseTakesLive = (base : Base) (live : List Commit) → IsBase base → AreLive base live → Takes base.full (live_nets live) (first_each (live_joints base live))
+
+-- the live orders' new nets are distinct, and none is one of the base
+abbrev pub LiveNetsAreNew : Type 0
+LiveNetsAreNew =
+    (base : Base) (live : List Commit) → IsBase base → AreLive base live
+    → IsDistinct (eq_by_cmp name_cmp) (live_nets live) × ((n : Name) → Contains (live_nets live) n → get base.full.nets n ≡ None)
 
 -- ---- less
 

@@ -1,10 +1,11 @@
-ghost use Rattle.eco_patch.specs.Laws.{BaseTakesJoints, ComponentsStay, FreeStockRests, GatesCompute, JointsJoin, LiveJoints, LiveMeansSame, LoneIsPatch, MovesArrive, NetsJoin, NothingLive, OtherNetsStay, OtherPinsStay, OthersRemain, PatchMeansSame, SameValuations, SparesCompute, StockIsBeside, WithoutComputesSame, WithoutIsLoopFree};
+ghost use Rattle.eco_patch.specs.Laws.{BaseTakesJoints, BaseTakesLive, ComponentsStay, FirstCounts, FreeStockRests, GatesCompute, JointsJoin, LiveJoints, LiveMeansSame, LiveNetsAreNew, LoneIsPatch, MovesArrive, NetsJoin, NothingLive, OtherNetsStay, OtherPinsStay, OthersRemain, PatchMeansSame, SameValuations, SparesCompute, StockIsBeside, WithoutComputesSame, WithoutIsLoopFree};
 
-/// A law: joints put their pins on their nets, and leave all other pins, each component's kind and place, and all nets but the
+/// A law: joints put their pins on their nets, of two joints of one pin the first, and leave all other pins, each component's kind and place, and all nets but the
 /// new ones as they were.
 pub fn joints_join()
     ensures pins { JointsJoin }
     ensures other_pins { OtherPinsStay }
+    ensures firsts { FirstCounts }
     ensures components { ComponentsStay }
     ensures nets { NetsJoin }
     ensures other_nets { OtherNetsStay }
@@ -54,10 +55,13 @@ pub fn live_means_same()
     ensures { LiveMeansSame }
 {}
 
-/// A law: several live orders realised are the base with joints put on it. A stock component that no live order has stands as
-/// in the base, and with no live order the whole base does.
+/// A law: several live orders realised are the base with joints put on it, of each pin the last order's, and these are ones
+/// that the base can take. A stock component that no live order has stands as in the base, and with no live order the whole
+/// base does.
 pub fn live_joints_join()
     ensures joints { LiveJoints }
+    ensures takes { BaseTakesLive }
+    ensures nets { LiveNetsAreNew }
     ensures rests { FreeStockRests }
     ensures none { NothingLive }
 {}

@@ -1,4 +1,5 @@
 use Rattle.eco_patch.proofs.Pins.{joints_join as join, other_pins_stay, components_stay, nets_join, other_nets_stay}
+use Rattle.eco_patch.proofs.Firsts.{first_counts}
 use Rattle.eco_patch.proofs.laws.joints_join.Goals as goal
 
 pub returns-clause-pins : goal.returns-clause-pins
@@ -15,3 +16,6 @@ returns-clause-nets c = nets_join
 
 pub returns-clause-other_nets : goal.returns-clause-other_nets
 returns-clause-other_nets c = other_nets_stay
+
+pub returns-clause-firsts : goal.returns-clause-firsts
+returns-clause-firsts c = first_counts
