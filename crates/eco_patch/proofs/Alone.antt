@@ -10,13 +10,14 @@ use Rattle.eco_patch.specs.Orders.{PatchGate, Move, Order, Placement}
 use Rattle.eco_patch.specs.Insertion.{patch_name, output_pin, inserted}
 use Rattle.eco_patch.specs.Embeddings.{Embeds}
 use Rattle.eco_patch.specs.Bases.{Base, IsBase, IsSpare, IsWithout, bare}
-use Rattle.eco_patch.specs.Rules.{KeepsRules, IsRedriven, by_gate, left_by, reached_by, Names, as_input, as_output, as_goal}
+use Rattle.eco_patch.specs.Rules.{KeepsRules, NoneStandsTwice, PinsAreKnown, IsRedriven, by_gate, left_by, reached_by, Names, as_input, as_output, as_goal}
 use Rattle.eco_patch.specs.Mappings.{IsMapping}
 use Rattle.eco_patch.specs.Lone.{lone_order, lone_base, IsLone}
-use Rattle.eco_patch.specs.Laws.{IsPatch}
+use Rattle.eco_patch.specs.Patches.{IsPatch}
 use Rattle.eco_patch.proofs.Sim.{found_driver}
 use Rattle.eco_patch.proofs.Gates.{joined_driven, patch_drives}
 use Rattle.eco_patch.proofs.Feeding.{spare_idle}
+use Rattle.eco_patch.proofs.Beside.{stock_beside}
 use Rattle.eco_patch.proofs.Lighter.{loop_free_without}
 use Rattle.eco_patch.proofs.Start.{bare_other, in_full, bool_cases, any_has}
 use Rattle.eco_patch.proofs.Inserting.{moved, moved_back, gates_cases}
@@ -135,12 +136,19 @@ module _ (full : Netlist) (low high label : Name) (place : Name → Option Point
       (λ s. not_old high (Some true, l.supplied.high_is) s)
       ((l.supplied.ties gate.output).0 t)
 
+  its_once : NoneStandsTwice order
+  unfolding IsDistinct
+  its_once = record { nets = (tt, tt); gates = (tt, tt); moves = (tt, tt) }
+
+  its_pins : PinsAreKnown (bare base) order
+  its_pins m c = (l.comp, ap (λ z. get (bare base).comps z.comp) (sym (one_of move m c)) ∙ comp_in_bare, (Reads, ap (λ z. role_of l.comp z.pin) (sym (one_of move m c)) ∙ l.pin_reads))
+
   keeps : KeepsRules (bare base) (bare base) P order
   unfolding IsDistinct
   keeps = record {
-    once = record { nets = (tt, tt); gates = (tt, tt); moves = (tt, tt) };
+    once = its_once;
     nets_known = known;
-    pins_known = λ m c. (l.comp, ap (λ z. get (bare base).comps z.comp) (sym (one_of move m c)) ∙ comp_in_bare, (Reads, ap (λ z. role_of l.comp z.pin) (sym (one_of move m c)) ∙ l.pin_reads));
+    pins_known = its_pins;
     true_moves = λ m c. subst (λ z. net_of (bare base) (CompPin z.comp z.pin) ≡ z.from) (one_of move m c) (ap (λ o. joined_at o move.pin) comp_in_bare ∙ l.from);
     no_supply = λ n r. (
       λ b e. not_None (sym e ∙ ap (get full.nets) (sym (redriven n r)) ∙ l.output_new),
@@ -150,7 +158,7 @@ module _ (full : Netlist) (low high label : Name) (place : Name → Option Point
     one_driver = λ n r q s d e.
         let one : (q : Pin) → driven P q ≡ Some n → q ≡ gate_pin = λ q f. only_gate q (f ∙ ap Some (sym (redriven n r))) in
         one q d ∙ sym (one s e);
-    loop_free = l.loop_free;
+    loop_free = ⊎_elim (λ f. f) (λ f. loop_free_without (inserted label place full order) P (stock_beside base label place order base_is its_once its_pins) f) l.loop_free;
   }
 
   mapped : IsMapping base order (p ∷ [])

@@ -1,5 +1,5 @@
 -- An order inserted: the stock beside it drives nothing, moved pins are on their new nets, and others stay
-use Rattle.std.proofs.Common.{◌≡◌, ◌≢◌, false, List, map, Option, Some, refl, sym, ap, ap₂, ◌∙◌, subst, inl, inr, ⊎_elim, ◌⊎◌}
+use Rattle.std.proofs.Common.{◌≡◌, ◌≢◌, ◌↔◌, false, List, map, Option, Some, refl, sym, ap, ap₂, ◌∙◌, subst, inl, inr, ⊎_elim, ◌⊎◌}
 use Rattle.std.specs.FinMap.{FinMap, get}
 use Rattle.std.specs.List.{Contains}
 use Rattle.eco_text.specs.declared.geometry.Point.{Point}
@@ -8,8 +8,14 @@ use Rattle.eco_net.specs.Drivers.{driven_at, net_of, joined_at}
 use Rattle.eco_net.proofs.Basics.{Has, same_Some, not_None, contains_from_has, has_from_contains, has_map, has_of_map}
 use Rattle.eco_patch.specs.Orders.{PatchGate, Move, Order, Placement}
 use Rattle.eco_patch.specs.Insertion.{patch_name, patch_component, with_gates, move_joint, inserted}
-use Rattle.eco_patch.specs.Bases.{Base, IsSpare, IsWithout, bare, is_stock}
-use Rattle.eco_patch.specs.Laws.{IsPatch}
+use Rattle.eco_patch.specs.Bases.{Base, IsBase, IsSpare, IsWithout, bare, is_stock}
+use Rattle.eco_patch.specs.Rules.{NoneStandsTwice, PinsAreKnown}
+use Rattle.eco_patch.specs.Patches.{IsPatch}
+use Rattle.eco_patch.specs.Realisation.{realised}
+use Rattle.eco_net.specs.CutKeys.{CutBits}
+use Rattle.eco_net.specs.Valuation.{Valuation, IsValuation}
+use Rattle.eco_patch.proofs.Patches.{same_valuations}
+use Rattle.eco_patch.proofs.Lighter.{same_without}
 use Rattle.eco_patch.proofs.Names.{has_blank}
 use Rattle.eco_patch.proofs.Joining.{rejoin, joined_some, joined_same, joined_old}
 use Rattle.eco_patch.proofs.Pins.{its_net}
@@ -18,7 +24,7 @@ use Rattle.eco_patch.proofs.Keeping.{gate_of_name}
 use Rattle.eco_patch.proofs.Inserting.{moved, moved_back, moved_not, gates_cases, gates_in, gates_other}
 use Rattle.eco_patch.proofs.Start.{bare_other, bare_stock, in_full, bool_cases, any_has}
 
-module _ (base : Base) (label : Name) (place : Name → Option Point) (order : Order) (placements : List Placement) (p : IsPatch base label place order placements) where
+module _ (base : Base) (label : Name) (place : Name → Option Point) (order : Order) (is : IsBase base) (once : NoneStandsTwice order) (pins_known : PinsAreKnown (bare base) order) where
   abbrev W : Netlist
   W = inserted label place base.full order
 
@@ -27,11 +33,11 @@ module _ (base : Base) (label : Name) (place : Name → Option Point) (order : O
 
   -- a gate stands in each
   gate_in : (A : FinMap name_cmp Component) (g : PatchGate) → Has order.gates g → get (with_gates label place A order.gates) (patch_name label g.name) ≡ Some (patch_component g (place g.name))
-  gate_in A g h = gates_in label place A order.gates g (λ d i e. gate_of_name order d g p.keeps.once.gates i h e) h
+  gate_in A g h = gates_in label place A order.gates g (λ d i e. gate_of_name order d g once.gates i h e) h
 
   -- no component of the base has a gate's name
   no_gate : (c : Name) (x : Component) → get base.full.comps c ≡ Some x → (g : PatchGate) → Has order.gates g → c ≢ patch_name label g.name
-  no_gate c x e g h s = p.base_is.no_blank c x e (contains_from_has c 32 (subst (λ z. Has z 32) (sym s) (has_blank label g.name)))
+  no_gate c x e g h s = is.no_blank c x e (contains_from_has c 32 (subst (λ z. Has z 32) (sym s) (has_blank label g.name)))
 
   kept : (c : Name) (x : Component) → get N.comps c ≡ Some x → get W.comps c ≡ Some x
   kept c x e = ⊎_elim
@@ -49,12 +55,12 @@ module _ (base : Base) (label : Name) (place : Name → Option Point) (order : O
 
   unmoved : (s : Name) → Has base.stock s → (m : Move) → Has order.moves m → m.comp ≢ s
   unmoved s h m i t =
-      let x = p.keeps.pins_known m (contains_from_has order.moves m i) in
+      let x = pins_known m (contains_from_has order.moves m i) in
       not_None (sym x.1 ∙ ap (get (bare base).comps) t ∙ bare_stock base s h)
 
   in_stock : (c : Name) (x : Component) → get (moved base.full.comps order.moves) c ≡ Some x → Has base.stock c → IsOther c x
   in_stock c x m h =
-      let s = p.base_is.stock c (contains_from_has base.stock c h) in
+      let s = is.stock c (contains_from_has base.stock c h) in
       let e : s.0 ≡ x = same_Some (sym s.1 ∙ sym (moved_not base.full.comps order.moves c (unmoved c h)) ∙ m) in
       inr ((spare_idle x (subst IsSpare e s.2)).drives_none)
 
@@ -83,9 +89,9 @@ module _ (base : Base) (label : Name) (place : Name → Option Point) (order : O
 
   pub moves_arrive : (m : Move) → Contains order.moves m → net_of N (CompPin m.comp m.pin) ≡ Some m.to
   moves_arrive m c =
-      let x = p.keeps.pins_known m c in
+      let x = pins_known m c in
       ap (λ o. joined_at o m.pin) (old_stays m.comp x.0 x.1)
-      ∙ its_net (map move_joint order.moves) x.0.joined (move_joint m) p.keeps.once.moves (has_map move_joint order.moves m (has_from_contains order.moves m c))
+      ∙ its_net (map move_joint order.moves) x.0.joined (move_joint m) once.moves (has_map move_joint order.moves m (has_from_contains order.moves m c))
 
   pub others_remain : (c : Name) (x : Component) (q : Name) → get (bare base).comps c ≡ Some x → ((m : Move) → Contains order.moves m → CompPin m.comp m.pin ≢ CompPin c q) → net_of N (CompPin c q) ≡ get x.joined q
   others_remain c x q e h =
@@ -96,3 +102,16 @@ module _ (base : Base) (label : Name) (place : Name → Option Point) (order : O
       let m = has_of_map move_joint order.moves j.0 j.1 in
       absurd (h m.0 (contains_from_has order.moves m.0 m.1) (ap₂ CompPin (ap (λ z. z.comp) m.2 ∙ j.2) (ap (λ z. z.pin) m.2 ∙ j.3))))
       (joined_old (map move_joint order.moves) c x.joined q)
+
+module _ (base : Base) (label : Name) (place : Name → Option Point) (order : Order) (placements : List Placement) (p : IsPatch base label place order placements) where
+  pub same_beside : (cut : CutBits) (v : Valuation) → IsValuation (inserted label place base.full order) cut v ↔ IsValuation (realised base.low base.high base.full order placements) cut v
+  same_beside cut v =
+      let w = same_without (inserted label place base.full order) (inserted label place (bare base) order) (stock_beside base label place order p.base_is p.keeps.once p.keeps.pins_known) cut v in
+      let s = same_valuations base label place order placements p cut v in
+      (λ a. s.0 (w.1 a), λ a. w.0 (s.1 a))
+
+  pub patch_moves_arrive : (m : Move) → Contains order.moves m → net_of (inserted label place (bare base) order) (CompPin m.comp m.pin) ≡ Some m.to
+  patch_moves_arrive = moves_arrive base label place order p.base_is p.keeps.once p.keeps.pins_known
+
+  pub patch_others_remain : (c : Name) (x : Component) (q : Name) → get (bare base).comps c ≡ Some x → ((m : Move) → Contains order.moves m → CompPin m.comp m.pin ≢ CompPin c q) → net_of (inserted label place (bare base) order) (CompPin c q) ≡ get x.joined q
+  patch_others_remain = others_remain base label place order p.base_is p.keeps.once p.keeps.pins_known

@@ -28,7 +28,7 @@ use Rattle.eco_patch.specs.Bases.{Base, IsBase, IsSpare, IsTie, bare}
 use Rattle.eco_patch.specs.Rules.{KeepsRules, IsRedriven, by_gate, left_by, reached_by, Names, as_input, as_output, as_goal}
 use Rattle.eco_patch.specs.Mappings.{IsMapping}
 use Rattle.eco_patch.specs.Live.{Commit, AreLive, IsGoodName}
-use Rattle.eco_patch.specs.Laws.{IsPatch}
+use Rattle.eco_patch.specs.Patches.{IsPatch}
 use Rattle.eco_patch.proofs.Listed.{lists_with, bare_lists, bare_made, joints_made, gates_made, parts_of, patch_part, not_computed_by, two_deep, reads_of}
 use Rattle.eco_patch.proofs.Spares.{Pair}
 use Rattle.eco_patch.proofs.Patches.{same_valuations}

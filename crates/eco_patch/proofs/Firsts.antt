@@ -1,5 +1,5 @@
 -- Of two joints of one pin the first counts
-use Rattle.std.proofs.Common.{◌≡◌, ◌≢◌, Bool, true, false, cond, not, ◌&&◌, List, [], ◌∷◌, Option, Some, None, refl, sym, ap, ap₂, ◌∙◌, subst, inl, inr, ⊎_elim, ◌⊎◌, true≢false, filter}
+use Rattle.std.proofs.Common.{◌≡◌, Bool, true, false, cond, not, ◌&&◌, List, [], ◌∷◌, Option, Some, None, refl, sym, ap, ap₂, ◌∙◌, inl, inr, ◌⊎◌, true≢false, filter}
 use Rattle.std.specs.Option.{option_map, option_or}
 use Rattle.std.specs.List.{IsDistinct, AllByRecursion}
 use Rattle.std.specs.Ordering.{eq_by_cmp}
@@ -7,7 +7,7 @@ use Rattle.std.specs.Cmp.Lexicographic.{nat_list_cmp_total}
 use Rattle.std.specs.FinMap.{FinMap, get, insert, get-insert, same_map}
 use Rattle.std.proofs.lemmas.Map.Lookups.{exact_bytes}
 use Rattle.eco_net.specs.Netlist.{Name, name_cmp, Netlist, Component}
-use Rattle.eco_net.proofs.Basics.{Has, same_of_cmp, cmp_itself}
+use Rattle.eco_net.proofs.Basics.{Has, same_of_cmp}
 use Rattle.eco_patch.specs.Joints.{Joint, put_joints, with_joints, same_pin, first_each}
 use Rattle.eco_patch.proofs.Joining.{rejoin, rejoined, comps_joined}
 

@@ -13,7 +13,7 @@ use Rattle.eco_patch.specs.Insertion.{inserted}
 use Rattle.eco_patch.specs.Realisation.{feed_net, realised}
 use Rattle.eco_patch.specs.Bases.{Base, bare}
 use Rattle.eco_patch.specs.Meaning.{SameMeaning}
-use Rattle.eco_patch.specs.Laws.{IsPatch}
+use Rattle.eco_patch.specs.Patches.{IsPatch}
 use Rattle.eco_patch.proofs.Sim.{Use, Sim, same_valuations as sim_valuations, same_meaning}
 use Rattle.eco_patch.proofs.Keeping.{keeps_from, mapped_from}
 use Rattle.eco_patch.proofs.Start.{start}

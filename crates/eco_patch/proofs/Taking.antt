@@ -15,7 +15,7 @@ use Rattle.eco_patch.specs.Embeddings.{Embeds}
 use Rattle.eco_patch.specs.Bases.{Base, IsBase, IsConstant, IsSpare, bare}
 use Rattle.eco_patch.specs.Rules.{PinsAreKnown, Names, as_input, as_output, as_goal}
 use Rattle.eco_patch.specs.Mappings.{IsMapping}
-use Rattle.eco_patch.specs.Laws.{IsPatch}
+use Rattle.eco_patch.specs.Patches.{IsPatch}
 use Rattle.eco_patch.proofs.Names.{has_of_append, not_first}
 use Rattle.eco_patch.proofs.Gates.{inputs_distinct}
 use Rattle.eco_patch.proofs.Feeding.{feeding_pin, spare_output}

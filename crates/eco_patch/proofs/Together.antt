@@ -1,11 +1,11 @@
 -- The nets and the joints of all live orders
-use Rattle.std.proofs.Common.{◌≡◌, ◌≢◌, Bool, true, false, List, [], ◌∷◌, ◌++◌, Option, Some, None, refl, sym, ap, ◌∙◌, subst, inl, inr, ⊎_elim, ◌⊎◌, append_assoc, append-nil}
+use Rattle.std.proofs.Common.{◌≡◌, List, [], ◌∷◌, ◌++◌, Some, None, refl, sym, ap, ◌∙◌, subst, inl, inr, ⊎_elim, ◌⊎◌, append_assoc, append-nil}
 use Rattle.std.specs.List.{Contains, IsDistinct}
 use Rattle.std.specs.Ordering.{eq_by_cmp}
-use Rattle.std.specs.FinMap.{FinMap, get}
+use Rattle.std.specs.FinMap.{get}
 use Rattle.eco_net.specs.Netlist.{Name, name_cmp, Netlist, Component, IsNet, IsPin}
 use Rattle.eco_net.proofs.Basics.{Has, not_None, same_name, cmp_apart, contains_from_has, has_from_contains, has_append_left, has_append_right}
-use Rattle.eco_patch.specs.Joints.{Joint, with_nets, same_pin, first_each, Takes}
+use Rattle.eco_patch.specs.Joints.{Joint, with_nets, first_each, Takes}
 use Rattle.eco_patch.specs.Realisation.{patch_joints}
 use Rattle.eco_patch.specs.Bases.{Base, IsBase, bare}
 use Rattle.eco_patch.specs.Rules.{Names, PinsAreKnown}
@@ -14,7 +14,7 @@ use Rattle.eco_patch.proofs.Names.{has_of_append}
 use Rattle.eco_patch.proofs.Joining.{nets_new, nets_other}
 use Rattle.eco_patch.proofs.Pins.{add_twice}
 use Rattle.eco_patch.proofs.Firsts.{firsts_once, firsts_among}
-use Rattle.eco_patch.proofs.Taking.{distinct_append, IsTaken, all_taken, low_net, high_net}
+use Rattle.eco_patch.proofs.Taking.{distinct_append, all_taken, low_net, high_net}
 
 -- whether a name stands in a list
 has_name : (ns : List Name) (n : Name) → Has ns n ⊎ (Has ns n → ⊥)

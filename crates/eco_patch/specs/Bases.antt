@@ -43,7 +43,7 @@ pub record IsWithout (M N : Netlist) : Type 0 where
   pub kept : (c : Name) (x : Component) → get N.comps c ≡ Some x → get M.comps c ≡ Some x
   pub others : (c : Name) (x : Component) → get M.comps c ≡ Some x → (get N.comps c ≡ Some x) ⊎ ((p n : Name) → driven_at (Some x) p ≡ Some n → ⊥)
 
--- byte 32, which no name in a DEF text has
+-- byte 32, which no name in a DEF text has (LEF/DEF 5.8, "Typographic and syntax conventions")
 abbrev pub HasBlank : Name → Type 0
 HasBlank n = Contains n 32
 

@@ -1,4 +1,5 @@
--- A netlist with pins put on nets: what an order's metal does to the base, where no component comes, goes or changes place.
+-- A netlist with pins put on nets (LEF/DEF 5.8, "Nets"): what an order's metal does to the base, where no component comes,
+-- goes or changes place.
 use Rattle.std.specs.Prelude.{◌≡◌, Bool, not, ◌&&◌, ◌⊎◌, List, [], ◌∷◌, Option, Some, None}
 use Rattle.std.specs.List.{Contains, IsDistinct, filter}
 use Rattle.std.specs.Ordering.{eq_by_cmp}

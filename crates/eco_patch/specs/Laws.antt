@@ -14,9 +14,10 @@ use Rattle.eco_patch.specs.Orders.{PatchGate, Move, Order, Placement}
 use Rattle.eco_patch.specs.Joints.{Joint, with_joints, frame, first_each, Takes}
 use Rattle.eco_patch.specs.Insertion.{inserted}
 use Rattle.eco_patch.specs.Realisation.{feed_net, patch_joints, realised}
-use Rattle.eco_patch.specs.Bases.{Base, IsBase, IsWithout, bare, HasBlank}
-use Rattle.eco_patch.specs.Rules.{KeepsRules}
-use Rattle.eco_patch.specs.Mappings.{IsMapping, spares_of}
+use Rattle.eco_patch.specs.Bases.{Base, IsBase, IsWithout, bare}
+use Rattle.eco_patch.specs.Rules.{NoneStandsTwice, PinsAreKnown}
+use Rattle.eco_patch.specs.Mappings.{spares_of}
+use Rattle.eco_patch.specs.Patches.{IsPatch}
 use Rattle.eco_patch.specs.Meaning.{SameMeaning}
 use Rattle.eco_patch.specs.Lone.{lone_base, lone_order, IsLone}
 use Rattle.eco_patch.specs.Live.{Commit, AreLive, live_joints, live_nets, abstract, concrete}
@@ -48,14 +49,7 @@ OtherNetsStay = (N : Netlist) (joints : List Joint) (nets : List Name) (n : Name
 
 -- ---- one order
 
--- an order that breaks no rule on the base, inserted under a label without a blank, and spares that map it
-pub record IsPatch (base : Base) (label : Name) (place : Name → Option Point) (order : Order) (placements : List Placement) : Type 0 where
-  pub base_is : IsBase base
-  pub no_blank : HasBlank label → ⊥
-  pub keeps : KeepsRules (bare base) (bare base) (inserted label place (bare base) order) order
-  pub mapped : IsMapping base order placements
-
--- one gate on a new net, which one input pin goes to, is such an order
+-- one gate on a new net, which one input pin goes to, is a patch
 abbrev pub LoneIsPatch : Type 0
 LoneIsPatch =
     (full : Netlist) (low high label : Name) (place : Name → Option Point) (gate : PatchGate) (move : Move) (p : Placement) → IsLone full low high label place gate move p
@@ -66,6 +60,12 @@ abbrev pub SameValuations : Type 0
 SameValuations =
     (base : Base) (label : Name) (place : Name → Option Point) (order : Order) (placements : List Placement) → IsPatch base label place order placements
     → (cut : CutBits) (v : Valuation) → IsValuation (inserted label place (bare base) order) cut v ↔ IsValuation (realised base.low base.high base.full order placements) cut v
+
+-- so it is with the gates inserted on the base with its stock in place
+abbrev pub SameBesideStock : Type 0
+SameBesideStock =
+    (base : Base) (label : Name) (place : Name → Option Point) (order : Order) (placements : List Placement) → IsPatch base label place order placements
+    → (cut : CutBits) (v : Valuation) → IsValuation (inserted label place base.full order) cut v ↔ IsValuation (realised base.low base.high base.full order placements) cut v
 
 -- the two netlists mean the same
 abbrev pub PatchMeansSame : Type 0
@@ -99,10 +99,10 @@ SparesCompute =
     → (g : PatchGate) (p : Placement) (x : Component) → Contains (zip order.gates placements) (g, p) → get base.full.comps p.spare ≡ Some x
     → (chosen : List Bool) × (role_of x p.output ≡ Some (Computes chosen)) × Computed (realised base.low base.high base.full order placements) g.output chosen (map (feed_net base.low base.high g.inputs) p.feeds)
 
--- the gates may as well be inserted on the base with its stock in place, which drives nothing
+-- the stock stands beside the inserted gates, and drives nothing
 abbrev pub StockIsBeside : Type 0
 StockIsBeside =
-    (base : Base) (label : Name) (place : Name → Option Point) (order : Order) (placements : List Placement) → IsPatch base label place order placements
+    (base : Base) (label : Name) (place : Name → Option Point) (order : Order) → IsBase base → NoneStandsTwice order → PinsAreKnown (bare base) order
     → IsWithout (inserted label place base.full order) (inserted label place (bare base) order)
 
 -- the joints that realise a patch are ones that the base can take

@@ -6,6 +6,7 @@ pub mod Embeddings
 pub mod Bases
 pub mod Rules
 pub mod Mappings
+pub mod Patches
 pub mod Meaning
 pub mod Live
 pub mod Lone

@@ -28,7 +28,8 @@ pub record IsSupplied (full : Netlist) (low high : Name) : Type 0 where
   pub no_blank : (c : Name) (x : Component) → get full.comps c ≡ Some x → HasBlank c → ⊥
 
 -- The component is a spare, each input is a net, the output is none, the pin is an input of another component and on the net
--- that it is to leave, there is no closed walk with the gate inserted, and the feeds embed the gate in the spare.
+-- that it is to leave, there is no closed walk with the gate inserted, whether the spare stands beside it or not, and the
+-- feeds embed the gate in the spare.
 pub record IsLone (full : Netlist) (low high label : Name) (place : Name → Option Point) (gate : PatchGate) (move : Move) (p : Placement) : Type 0 where
   pub supplied : IsSupplied full low high
   pub no_blank : HasBlank label → ⊥
@@ -43,5 +44,5 @@ pub record IsLone (full : Netlist) (low high label : Name) (place : Name → Opt
   pub pin_reads : role_of comp move.pin ≡ Some Reads
   pub from : get comp.joined move.pin ≡ move.from
   pub to : move.to ≡ gate.output
-  pub loop_free : IsLoopFree (inserted label place (bare (lone_base full low high p.spare)) (lone_order gate move))
+  pub loop_free : IsLoopFree (inserted label place (bare (lone_base full low high p.spare)) (lone_order gate move)) ⊎ IsLoopFree (inserted label place full (lone_order gate move))
   pub embeds : Embeds (length gate.inputs) gate.table spare p.output p.feeds

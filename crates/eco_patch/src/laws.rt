@@ -1,4 +1,4 @@
-ghost use Rattle.eco_patch.specs.Laws.{BaseTakesJoints, BaseTakesLive, ComponentsStay, FirstCounts, FreeStockRests, GatesCompute, JointsJoin, LiveJoints, LiveMeansSame, LiveNetsAreNew, LoneIsPatch, MovesArrive, NetsJoin, NothingLive, OtherNetsStay, OtherPinsStay, OthersRemain, PatchMeansSame, SameValuations, SparesCompute, StockIsBeside, WithoutComputesSame, WithoutIsLoopFree};
+ghost use Rattle.eco_patch.specs.Laws.{BaseTakesJoints, BaseTakesLive, ComponentsStay, FirstCounts, FreeStockRests, GatesCompute, JointsJoin, LiveJoints, LiveMeansSame, LiveNetsAreNew, LoneIsPatch, MovesArrive, NetsJoin, NothingLive, OtherNetsStay, OtherPinsStay, OthersRemain, PatchMeansSame, SameBesideStock, SameValuations, SparesCompute, StockIsBeside, WithoutComputesSame, WithoutIsLoopFree};
 
 /// A law: joints put their pins on their nets, of two joints of one pin the first, and leave all other pins, each component's kind and place, and all nets but the
 /// new ones as they were.
@@ -12,9 +12,10 @@ pub fn joints_join()
 {}
 
 /// A law: a map from nets to bits is a valuation of the base with an order's gates inserted exactly where it is one of the
-/// base with the spares in their place, for each choice of cut bits.
+/// base with the spares in their place, for all cut bits, whether the stock stands beside the gates or not.
 pub fn same_valuations()
-    ensures { SameValuations }
+    ensures bare { SameValuations }
+    ensures beside { SameBesideStock }
 {}
 
 /// A law: the two netlists are loop-free, have the same nets, cut keys and observables, and for each choice of cut bits one
@@ -66,8 +67,8 @@ pub fn live_joints_join()
     ensures none { NothingLive }
 {}
 
-/// A law: taking away components that drive nothing makes no loop and changes no valuation. So an order's gates may as well be
-/// inserted on the base with its stock in place.
+/// A law: taking away components that drive nothing makes no loop and changes no valuation. The stock beside an order's
+/// inserted gates are such components.
 pub fn without_means_same()
     ensures loops { WithoutIsLoopFree }
     ensures valuations { WithoutComputesSame }

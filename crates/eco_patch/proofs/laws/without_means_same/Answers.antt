@@ -9,4 +9,4 @@ pub returns-clause-valuations : goal.returns-clause-valuations
 returns-clause-valuations c = same_without
 
 pub returns-clause-stock : goal.returns-clause-stock
-returns-clause-stock c = stock_beside
+returns-clause-stock c base label place order is once pins = stock_beside base label place order is once pins
