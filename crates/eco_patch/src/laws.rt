@@ -1,7 +1,7 @@
 ghost use Rattle.eco_patch.specs.Laws.{BaseTakesJoints, BaseTakesLive, ComponentsStay, FirstCounts, FreeStockRests, GatesCompute, JointsJoin, LiveJoints, LiveMeansSame, LiveNetsAreNew, LoneIsPatch, MovesArrive, NetsJoin, NothingLive, OtherNetsStay, OtherPinsStay, OthersRemain, PatchMeansSame, SameBesideStock, SameValuations, SparesCompute, StockIsBeside, WithoutComputesSame, WithoutIsLoopFree};
 
-/// A law: joints put their pins on their nets, of two joints of one pin the first, and leave all other pins, each component's kind and place, and all nets but the
-/// new ones as they were.
+/// A law: joints put their pins on their nets, of two joints of one pin the first, and leave all other pins, each component's
+/// kind and place, and all nets but the new ones as they were.
 pub fn joints_join()
     ensures pins { JointsJoin }
     ensures other_pins { OtherPinsStay }
