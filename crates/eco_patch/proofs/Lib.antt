@@ -1,0 +1,22 @@
+pub mod Names
+pub mod Joining
+pub mod Pins
+pub mod Firsts
+pub mod Gates
+pub mod Sim
+pub mod Feeding
+pub mod Spares
+pub mod Keeping
+pub mod Inserting
+pub mod Step
+pub mod Start
+pub mod Patches
+pub mod Taking
+pub mod Lighter
+pub mod Beside
+pub mod Alone
+pub mod Relabel
+pub mod Fold
+pub mod Together
+pub mod Listed
+mod Example
