@@ -1,0 +1,5 @@
+pub mod Telling
+pub mod Naming
+pub mod Loops
+pub mod Passing
+pub mod Saying

@@ -1,0 +1,5 @@
+pub mod Parsing
+pub mod Grammar
+pub mod Reading
+pub mod Known
+pub mod Collected

@@ -1,0 +1,20 @@
+//! Masters of LEF texts: LEF/DEF 5.8 Language Reference, in the profile of docs/FORMATS.md.
+#![tactic(auto)]
+
+mod blocks;
+mod fault;
+mod library;
+mod library_statements;
+mod macro_statements;
+mod master;
+mod names;
+mod pin_list;
+mod pin_statements;
+mod read;
+mod reader;
+mod statement;
+
+pub use crate::fault::LefFault;
+pub use crate::library::Library;
+pub use crate::master::{Master, MasterPin};
+pub use crate::read::read_lef;
