@@ -3,3 +3,4 @@ pub mod Naming
 pub mod Loops
 pub mod Passing
 pub mod Saying
+pub mod Limits

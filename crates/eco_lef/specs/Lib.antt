@@ -3,3 +3,4 @@ pub mod Grammar
 pub mod Reading
 pub mod Known
 pub mod Collected
+pub mod Limits

@@ -1,6 +1,8 @@
 //! Masters of LEF texts: LEF/DEF 5.8 Language Reference, in the profile of docs/FORMATS.md.
 #![tactic(auto)]
 
+ghost use Rattle.eco_lef.specs.Limits.{LimitsKeep};
+
 mod blocks;
 mod fault;
 mod library;
@@ -18,3 +20,12 @@ pub use crate::fault::LefFault;
 pub use crate::library::Library;
 pub use crate::master::{Master, MasterPin};
 pub use crate::read::read_lef;
+
+/// A law of limits: within a limit a text gives its library where that has no more masters, and else its own fault or the
+/// name of the first macro too many, whichever stands first.
+pub fn limits_keep_libraries()
+    ensures { LimitsKeep }
+{}
+
+#[cfg(test)]
+mod tests;
