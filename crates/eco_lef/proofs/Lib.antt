@@ -4,3 +4,5 @@ pub mod Loops
 pub mod Passing
 pub mod Saying
 pub mod Limits
+pub mod Distinct
+mod Examples

@@ -39,7 +39,7 @@ pin_more ss s =
     ap (λ o. pin_record o (first_some (map supply_said (ss ++ s ∷ [])))) (first_more dir_said ss s)
     ∙ ap (pin_record (option_or (pin_said ss).dir (dir_said s))) (first_more supply_said ss s) ∙ in_pin ss s
 
-pins_more : (ss : List MacroStatement) (s : MacroStatement) → pins_of (ss ++ s ∷ []) ≡ pins_of ss ++ pins_of (s ∷ [])
+pub pins_more : (ss : List MacroStatement) (s : MacroStatement) → pins_of (ss ++ s ∷ []) ≡ pins_of ss ++ pins_of (s ∷ [])
 pins_more [] s = refl
 pins_more (Sized z ∷ ss) s = pins_more ss s
 pins_more (Pinned p ∷ ss) s = ap (λ k. p ∷ k) (pins_more ss s)

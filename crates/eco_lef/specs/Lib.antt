@@ -4,3 +4,4 @@ pub mod Reading
 pub mod Known
 pub mod Collected
 pub mod Limits
+pub mod Names

@@ -2,6 +2,7 @@
 #![tactic(auto)]
 
 ghost use Rattle.eco_lef.specs.Limits.{LimitsKeep};
+ghost use Rattle.eco_lef.specs.Names.{NamesDiffer};
 
 mod blocks;
 mod fault;
@@ -25,6 +26,11 @@ pub use crate::read::read_lef;
 /// name of the first macro too many, whichever stands first.
 pub fn limits_keep_libraries()
     ensures { LimitsKeep }
+{}
+
+/// A law of names: in a library no two masters have one name, and no two pins of a master.
+pub fn names_stand_once()
+    ensures { NamesDiffer }
 {}
 
 #[cfg(test)]
