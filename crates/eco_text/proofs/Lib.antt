@@ -4,5 +4,6 @@ pub mod Stepping
 pub mod WalkSteps
 pub mod Streaming
 pub mod DigitSteps
+pub mod Microns
 pub mod Sequence
 mod Examples

@@ -1,6 +1,7 @@
 -- Numbers in decimal digits.
-use Rattle.std.specs.Prelude.{ℕ, ◌+◌, ◌-◌, ◌*◌, ◌^◌, ◌==◌, nat_le, ℤ, pos, neg_ℤ, List, [], ◌∷◌, Option, Some, None, option_and_then, if◌then◌else◌}
+use Rattle.std.specs.Prelude.{ℕ, ◌+◌, ◌-◌, ◌*◌, ◌^◌, ◌==◌, ◌&&◌, nat_le, ℤ, pos, neg_ℤ, Bool, List, [], ◌∷◌, ◌++◌, take, drop, codes, Option, Some, None, option_and_then, if◌then◌else◌}
 use Rattle.std.specs.Char.{is_ascii_digit, digit_value}
+use Rattle.std.specs.List.{list_all, list_any, position_or_len}
 
 -- the number of these digits behind those of n; none where one isn't a digit
 abbrev pub digits_behind : ℕ → List ℕ → Option ℕ
@@ -28,3 +29,24 @@ integer_of [] = None
 integer_of (c ∷ cs) =
     if c == 45 then option_and_then (λ n. Some (neg_ℤ (pos n))) (at_most (2 ^ 31) (natural_of cs))
     else option_and_then (λ n. Some (pos n)) (at_most (2 ^ 31 - 1) (natural_of (c ∷ cs)))
+
+abbrev pub is_point : ℕ → Bool
+is_point b = b == 46
+
+-- what stands before the first point of a word, and what stands behind it
+abbrev pub whole_part : List ℕ → List ℕ
+whole_part word = take (position_or_len is_point word) word
+
+abbrev pub decimals : List ℕ → List ℕ
+decimals word = drop (position_or_len is_point word + 1) word
+
+-- six decimals: what is missing is 0, and what stands behind them is dropped
+abbrev pub six_of : List ℕ → List ℕ
+six_of digits = take 6 (digits ++ codes "000000")
+
+-- A length in millionths of a micron, up to 10,000 microns: LEF/DEF 5.8, a number with decimals. It has at least one
+-- digit, and at most one point before, among or behind the digits.
+abbrev pub microns_of : List ℕ → Option ℕ
+microns_of word =
+    if list_any is_ascii_digit word && list_all is_ascii_digit (decimals word)
+    then at_most 10000000000 (digits_behind 0 (whole_part word ++ six_of (decimals word))) else None

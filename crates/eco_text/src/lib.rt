@@ -21,7 +21,7 @@ pub use crate::byte_sink::ByteSink;
 pub use crate::byte_source::ByteSource;
 pub use crate::failed::Failed;
 pub use crate::geometry::{Dir, Point};
-pub use crate::numbers::{BadNumber, read_i32, read_natural, read_number};
+pub use crate::numbers::{BadNumber, read_i32, read_microns, read_natural, read_number};
 pub use crate::pieces::{between, part, write_piece, write_pieces};
 pub use crate::sink::Sink;
 pub use crate::source::Source;

@@ -1,8 +1,11 @@
 //! Numbers in decimal digits.
 
-ghost use Rattle.std.specs.Prelude.{◌≡◌, ◌^◌, ◌≤◌, Some, None, MatchResult};
-ghost use Rattle.eco_text.specs.Numbers.{natural_of, number_of, at_most, integer_of, digits_behind};
+ghost use Rattle.std.specs.Prelude.{◌≡◌, ◌^◌, ◌≤◌, Some, None, position, length, MatchResult};
+ghost use Rattle.std.specs.Char.{is_ascii_digit};
+ghost use Rattle.std.specs.List.{list_all, list_any, position_or_len};
+ghost use Rattle.eco_text.specs.Numbers.{natural_of, number_of, at_most, integer_of, digits_behind, is_point, six_of, microns_of};
 
+use crate::pieces::part;
 use thiserror::Error;
 
 /// A word is no number, or one out of range.
@@ -63,4 +66,86 @@ pub fn read_i32(word: &[u8]) -> Result<i32, BadNumber>
             None => Err(BadNumber),
         },
     }
+}
+
+/// The longest length, in millionths of a micron.
+const MOST_MILLIONTHS: u64 = 10_000_000_000;
+
+fn point_place(word: &[u8]) -> Option<usize>
+    ensures { result ≡ position is_point word.now }
+{
+    word.iter().position(|byte| *byte == b'.')
+}
+
+/// How many bytes stand before the first point.
+#[tactic(auto, using(crate::proofs::Lengths::unwrap_or_position))]
+fn whole_len(word: &[u8]) -> usize
+    ensures within { result ≤ length word.now }
+    ensures first { result ≡ position_or_len is_point word.now }
+{
+    point_place(word).unwrap_or(word.len())
+}
+
+fn has_digit(word: &[u8]) -> bool
+    ensures { result ≡ list_any is_ascii_digit word.now }
+{
+    word.iter().any(|byte| byte.is_ascii_digit())
+}
+
+fn are_digits(bytes: &[u8]) -> bool
+    ensures { result ≡ list_all is_ascii_digit bytes.now }
+{
+    bytes.iter().all(|byte| byte.is_ascii_digit())
+}
+
+/// The first six digits, with zeros for those that are missing.
+fn six_decimals(digits: &[u8]) -> [u8; 6]
+    ensures { result ≡ six_of digits.now }
+{
+    let mut six = [b'0'; 6];
+    let kept = digits.len().min(6);
+    six[..kept].copy_from_slice(&digits[..kept]);
+    six
+}
+
+/// The millionths that digits make behind those of a number, where they are at most the longest length.
+#[tactic(auto, using(crate::proofs::DigitSteps::above_limit, crate::proofs::DigitSteps::digit_on))]
+fn read_millionths(before: u64, digits: &[u8]) -> Option<u64>
+    requires { before ≤ 10000000000 }
+    ensures { result ≡ at_most 10000000000 (digits_behind before digits.now) }
+{
+    let mut number = before;
+    for digit in digits {
+        if !digit.is_ascii_digit() {
+            return None;
+        }
+        let longer = number * 10 + u64::from(digit - b'0');
+        if longer > MOST_MILLIONTHS {
+            return None;
+        }
+        number = longer;
+    }
+    Some(number)
+}
+
+/// The millionths of a word that is a length.
+#[tactic(auto, using(crate::proofs::DigitSteps::digits_on))]
+fn millionths(word: &[u8]) -> Option<u64>
+    ensures { result ≡ microns_of word.now }
+{
+    let point = whole_len(word);
+    let decimals = part(word, point + 1, word.len());
+    if !has_digit(word) || !are_digits(decimals) {
+        return None;
+    }
+    let whole = read_millionths(0, part(word, 0, point))?;
+    read_millionths(whole, &six_decimals(decimals))
+}
+
+/// A length in millionths of a micron: digits with a point before, among or behind them, or without one, up to 10,000
+/// microns. Digits behind the sixth decimal are dropped.
+pub fn read_microns(word: &[u8]) -> Result<u64, BadNumber>
+    ensures { MatchResult result (λ x. microns_of word.now ≡ Some x) (λ _. microns_of word.now ≡ None) }
+{
+    millionths(word).ok_or(BadNumber)
 }

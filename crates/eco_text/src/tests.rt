@@ -1,5 +1,6 @@
 use crate::{
-    BadNumber, ByteSink, ByteSource, Failed, Sink, Source, TextFault, Words, read_i32, read_number,
+    BadNumber, ByteSink, ByteSource, Failed, Sink, Source, TextFault, Words, read_i32,
+    read_microns, read_number,
 };
 use std::alloc::Global;
 use std::process::Abort;
@@ -84,6 +85,34 @@ fn numbers_within_and_beyond_their_range(rt: HostRuntime) -> Result<(), Fail> {
     ];
     for (word, wanted) in numbers {
         assert_eq!(rt; read_number(10, word.as_bytes()), wanted);
+    }
+    Ok(())
+}
+
+#[test]
+fn lengths_in_microns(rt: HostRuntime) -> Result<(), Fail> {
+    let lengths = [
+        ("2", Ok(2_000_000)),
+        ("0.4", Ok(400_000)),
+        ("4.800", Ok(4_800_000)),
+        (".5", Ok(500_000)),
+        ("5.", Ok(5_000_000)),
+        ("0.0000019", Ok(1)),
+        ("007.5", Ok(7_500_000)),
+        ("10000", Ok(10_000_000_000)),
+        ("10000.0000009", Ok(10_000_000_000)),
+        ("10000.000001", Err(BadNumber)),
+        ("99999999999999999999999", Err(BadNumber)),
+        ("", Err(BadNumber)),
+        (".", Err(BadNumber)),
+        ("1.2.3", Err(BadNumber)),
+        ("-1", Err(BadNumber)),
+        ("+1", Err(BadNumber)),
+        ("1e3", Err(BadNumber)),
+        ("1.000000x", Err(BadNumber)),
+    ];
+    for (word, wanted) in lengths {
+        assert_eq!(rt; read_microns(word.as_bytes()), wanted);
     }
     Ok(())
 }

@@ -1,0 +1,8 @@
+pub mod Telling
+pub mod Naming
+pub mod Loops
+pub mod Passing
+pub mod Saying
+pub mod Limits
+pub mod Distinct
+mod Examples

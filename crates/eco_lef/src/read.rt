@@ -1,0 +1,25 @@
+//! The library of a text.
+
+ghost use Rattle.std.specs.Prelude.{◌≡◌, ◌≤◌, length, Ok, IfOk, IfErr};
+ghost use Rattle.eco_lef.specs.Grammar.{library_within};
+ghost use Rattle.eco_lef.specs.Limits.{IsLibraryOf};
+ghost use Rattle.eco_lef.specs.Reading.{Refuses};
+
+use crate::fault::LefFault;
+use crate::library::Library;
+use crate::reader::Reader;
+use std::alloc::Global;
+
+/// Reads a LEF text of at most 67,108,864 bytes.
+///
+/// The masters are those of the text by the rules of docs/FORMATS.md, at most 16,384. A text that gives none has a first
+/// fault, from the front of the text, and that is the answer.
+pub fn read_lef(alloc: Global, text: &[u8]) -> Result<Library, LefFault>
+    requires { length text.now ≤ 67108864 }
+    ensures library { IfOk result (IsLibraryOf 16384 text.now) }
+    ensures masters { IfOk result (λ masters. library_within 16384 text.now ≡ Ok masters) }
+    ensures fault { IfErr result (λ e. Refuses (library_within 16384 text.now) e) }
+{
+    let mut reader = Reader::new(alloc, text);
+    reader.library()
+}

@@ -1,0 +1,330 @@
+use crate::{LefFault, Library, Master, read_lef};
+use eco_text::{Dir, TextFault};
+use std::alloc::Global;
+use std::process::Abort;
+use std::test::Fail;
+
+/// The small base's inverter, as a library writes it.
+const INV: &str = "MACRO INV
+  CLASS CORE ;
+  ORIGIN 0 0 ;
+  SIZE 0.4 BY 2 ;
+  PIN A
+    DIRECTION INPUT ;
+    USE SIGNAL ;
+    PORT
+      LAYER M1 ;
+      RECT 0.1 0.1 0.2 0.2 ;
+    END
+  END A
+  PIN Y
+    DIRECTION OUTPUT ;
+    USE SIGNAL ;
+  END Y
+  PIN VDD
+    DIRECTION INOUT ;
+    USE POWER ;
+  END VDD
+  PIN VSS
+    DIRECTION INOUT ;
+    USE GROUND ;
+  END VSS
+END INV
+";
+
+const NAND2: &str = "MACRO NAND2
+  SIZE 0.6 BY 2 ;
+  PIN A DIRECTION INPUT ; USE SIGNAL ; END A
+  PIN B DIRECTION INPUT ; USE SIGNAL ; END B
+  PIN Y DIRECTION OUTPUT ; USE SIGNAL ; END Y
+  PIN VDD DIRECTION INOUT ; USE POWER ; END VDD
+  PIN VSS DIRECTION INOUT ; USE GROUND ; END VSS
+END NAND2
+";
+
+const AOI21: &str = "MACRO AOI21
+  SIZE 0.8 BY 2 ;
+  PIN A DIRECTION INPUT ; USE SIGNAL ; END A
+  PIN B DIRECTION INPUT ; USE SIGNAL ; END B
+  PIN C DIRECTION INPUT ; USE SIGNAL ; END C
+  PIN Y DIRECTION OUTPUT ; USE SIGNAL ; END Y
+  PIN VDD DIRECTION INOUT ; USE POWER ; END VDD
+  PIN VSS DIRECTION INOUT ; USE GROUND ; END VSS
+END AOI21
+";
+
+const DFF: &str = "MACRO DFF
+  SIZE 1.6 BY 2 ;
+  PIN D DIRECTION INPUT ; USE SIGNAL ; END D
+  PIN CK DIRECTION INPUT ; USE CLOCK ; END CK
+  PIN Q DIRECTION OUTPUT ; USE SIGNAL ; END Q
+  PIN VDD DIRECTION INOUT ; USE POWER ; END VDD
+  PIN VSS DIRECTION INOUT ; USE GROUND ; END VSS
+END DFF
+";
+
+const SMALL: &str =
+    "INV 400000x2000000 <A >Y +VDD +VSS;NAND2 600000x2000000 <A <B >Y +VDD +VSS;AOI21 800000x2000000 <A <B <C >Y +VDD +VSS;DFF 1600000x2000000 <D <CK >Q +VDD +VSS;";
+
+fn push_bytes(line: &mut String, bytes: &[u8]) -> Result<(), Fail> {
+    for byte in bytes {
+        line.push(char::from(*byte))?;
+    }
+    Ok(())
+}
+
+/// A master in one line: `<` stands before an input, `>` before an output, `-` before an inout, `+` before a supply.
+fn push_master(line: &mut String, master: &Master) -> Result<(), Fail> {
+    push_bytes(line, master.name.bytes())?;
+    write!(line, " {}x{}", master.width, master.height)?;
+    for pin in master.pins.as_slice() {
+        let mark = match pin.dir {
+            _ if pin.supply => " +",
+            Dir::Input => " <",
+            Dir::Output => " >",
+            Dir::Inout => " -",
+        };
+        line.push_str(mark)?;
+        push_bytes(line, pin.name.bytes())?;
+    }
+    line.push(';')?;
+    Ok(())
+}
+
+fn push_library(line: &mut String, library: &Library) -> Result<(), Fail> {
+    for master in library.masters() {
+        push_master(line, master)?;
+    }
+    Ok(())
+}
+
+fn push_fault(line: &mut String, fault: &LefFault) -> Result<(), Fail> {
+    match fault {
+        LefFault::Text(TextFault::OpenQuote { place }) => write!(line, "OpenQuote {place}")?,
+        LefFault::Unended { name } => {
+            line.push_str("Unended ")?;
+            push_bytes(line, name.bytes())?;
+        }
+        LefFault::TwiceNamed { place } => write!(line, "TwiceNamed {place}")?,
+        LefFault::TooManyMasters { place } => write!(line, "TooManyMasters {place}")?,
+        LefFault::ArrayBlock { place } => write!(line, "ArrayBlock {place}")?,
+        LefFault::BadStatement { place } => write!(line, "BadStatement {place}")?,
+        LefFault::Memory => line.push_str("memory")?,
+    }
+    Ok(())
+}
+
+/// What a text is read as: its masters, or its fault.
+fn told(rt: &impl Abort, alloc: Global, text: &str) -> Result<String, Fail> {
+    assert!(rt; text.len() <= 67_108_864);
+    let mut line = String::new(alloc);
+    match read_lef(alloc, text.as_bytes()) {
+        Ok(library) => push_library(&mut line, &library)?,
+        Err(fault) => push_fault(&mut line, &fault)?,
+    }
+    Ok(line)
+}
+
+#[test]
+fn the_library_of_the_small_base(rt: HostRuntime) -> Result<(), Fail> {
+    let alloc = rt.alloc();
+    let text = format!(in alloc; "VERSION 5.8 ;\n{INV}{NAND2}{AOI21}{DFF}END LIBRARY\n")?;
+    assert_eq!(rt; told(&rt, alloc, text.as_str())?.as_str(), SMALL);
+    let noted = format!(in alloc; "VERSION 5.8 ;\nNOTE x ; END NOTE\n{INV}{NAND2}{AOI21}{DFF}")?;
+    assert_eq!(rt; told(&rt, alloc, noted.as_str())?.as_str(), SMALL);
+    Ok(())
+}
+
+#[test]
+fn masters_are_found_by_name(rt: HostRuntime) -> Result<(), Fail> {
+    let text =
+        "MACRO b SIZE 1 BY 1 ; END b MACRO a SIZE 2 BY 1 ; END a MACRO c SIZE 3 BY 1 ; END c";
+    assert!(rt; text.len() <= 1000);
+    let library = read_lef(rt.alloc(), text.as_bytes()).map_err(|_| "the text is a library")?;
+    let wanted = [
+        ("a", Some(2_000_000)),
+        ("b", Some(1_000_000)),
+        ("c", Some(3_000_000)),
+        ("d", None),
+        ("", None),
+    ];
+    for (name, width) in wanted {
+        let found = match library.find(name.as_bytes()) {
+            Some(master) => Some(master.width),
+            None => None,
+        };
+        assert_eq!(rt; found, width);
+    }
+    Ok(())
+}
+
+#[test]
+fn statements_and_blocks_of_all_kinds(rt: HostRuntime) -> Result<(), Fail> {
+    let texts = [
+        ("", ""),
+        ("END LIBRARY MACRO A END A \"", ""),
+        ("MACRO A END A # END LIBRARY\nMACRO B END B", "A 0x0;B 0x0;"),
+        (
+            "MACRO A\r\nSIZE 4.800 BY 20.000 ;\r\nEND A\r\n",
+            "A 4800000x20000000;",
+        ),
+        (
+            "MACRO A SIZE 1 BY 2 ; SIZE 3 BY 4 ; END A",
+            "A 1000000x2000000;",
+        ),
+        (
+            "USEMINSPACING OBS ON ; CLEARANCEMEASURE EUCLIDEAN ; MANUFACTURINGGRID 0.005 ; MACRO A END A",
+            "A 0x0;",
+        ),
+        (
+            "LAYER M1 TYPE ROUTING ; SPACING 0.1 ; MACRO X END M1 MACRO A END A",
+            "A 0x0;",
+        ),
+        (
+            "VIA v DEFAULT LAYER M1 ; END v VIARULE r GENERATE LAYER M1 ; END r MACRO A END A",
+            "A 0x0;",
+        ),
+        (
+            "SITE core CLASS CORE ; END core NONDEFAULTRULE n END n MACRO A END A",
+            "A 0x0;",
+        ),
+        (
+            "UNITS DATABASE MICRONS 1000 ; END UNITS PROPERTYDEFINITIONS MACRO m REAL ; END PROPERTYDEFINITIONS",
+            "",
+        ),
+        (
+            "SPACING SAMENET M1 M1 0.1 ; END END SPACING MACRO A END A",
+            "A 0x0;",
+        ),
+        (
+            "BEGINEXT \"note\" MACRO X END X ENDEXT MACRO A END A",
+            "A 0x0;",
+        ),
+        ("END END LIBRARY ; MACRO A END A", "A 0x0;"),
+        ("; ; MACRO A ; ; PIN P ; ; END P END A", "A 0x0 -P;"),
+        (
+            "MACRO A OBS LAYER M1 ; RECT 0 0 1 1 ; END DENSITY LAYER M1 ; END END A",
+            "A 0x0;",
+        ),
+        ("MACRO A END B SIZE 1 BY 1 ; END A", "A 1000000x1000000;"),
+        (
+            "MACRO A PIN P END A DIRECTION INPUT ; END P END A",
+            "A 0x0 <P;",
+        ),
+        (
+            "MACRO A PIN P DIRECTION OUTPUT TRISTATE ; END P END A",
+            "A 0x0 >P;",
+        ),
+        (
+            "MACRO A PIN P DIRECTION FEEDTHRU ; END P END A",
+            "A 0x0 -P;",
+        ),
+        (
+            "MACRO A PIN P DIRECTION INPUT ; DIRECTION OUTPUT ; END P END A",
+            "A 0x0 <P;",
+        ),
+        (
+            "MACRO A PIN P USE SIGNAL ; USE POWER ; END P END A",
+            "A 0x0 -P;",
+        ),
+        (
+            "MACRO A PIN P USE POWER x ; USE GROUND ; END P END A",
+            "A 0x0 -P;",
+        ),
+        (
+            "MACRO A PIN P USE ; END P PIN Q USE GROUND ; END Q END A",
+            "A 0x0 -P +Q;",
+        ),
+        (
+            "MACRO A PIN P MUSTJOIN Q ; PORT DIRECTION x END END P END A",
+            "A 0x0 -P;",
+        ),
+        (
+            "MACRO u1\\[0\\] PIN a[1] END a[1] END u1\\[0\\]",
+            "u1\\[0\\] 0x0 -a[1];",
+        ),
+        (
+            "MACRO A PIN P END P END A MACRO B PIN P END P END B",
+            "A 0x0 -P;B 0x0 -P;",
+        ),
+    ];
+    for (text, wanted) in texts {
+        assert_eq!(rt; told(&rt, rt.alloc(), text)?.as_str(), wanted, "{text}");
+    }
+    Ok(())
+}
+
+#[test]
+fn the_first_fault_of_a_text(rt: HostRuntime) -> Result<(), Fail> {
+    let texts = [
+        ("MACRO A \"b", "OpenQuote 8"),
+        ("END \"", "OpenQuote 4"),
+        ("VERSION 5.8", "Unended VERSION"),
+        ("\"a b\" c", "Unended \"a b\""),
+        ("MACRO", "Unended MACRO"),
+        ("LAYER", "Unended LAYER"),
+        ("LAYER M1 END M2", "Unended M1"),
+        ("UNITS DATABASE MICRONS 1000 ; END", "Unended UNITS"),
+        ("BEGINEXT \"note\" ENDEX", "Unended BEGINEXT"),
+        ("MACRO INV", "Unended INV"),
+        ("MACRO INV SIZE 1 BY", "Unended INV"),
+        ("MACRO INV OBS LAYER M1 ;", "Unended INV"),
+        ("MACRO INV PIN", "Unended INV"),
+        ("MACRO INV PIN A", "Unended A"),
+        ("MACRO INV PIN A DIRECTION INPUT", "Unended A"),
+        ("MACRO INV PIN A USE POWER", "Unended A"),
+        ("MACRO INV PIN A PORT LAYER M1 ;", "Unended A"),
+        ("MACRO INV PIN A END A", "Unended INV"),
+        ("MACRO INV END", "Unended INV"),
+        ("MACRO A END A MACRO A", "TwiceNamed 20"),
+        ("MACRO A PIN P END P PIN P", "TwiceNamed 24"),
+        ("MACRO A END A ARRAY x", "ArrayBlock 14"),
+        ("MACRO ;", "BadStatement 6"),
+        ("MACRO \"A\"", "BadStatement 6"),
+        ("VIA ; ", "BadStatement 4"),
+        ("MACRO A PIN (", "BadStatement 12"),
+        ("MACRO A SIZE x BY 1 ;", "BadStatement 13"),
+        ("MACRO A SIZE 1 1 ;", "BadStatement 15"),
+        ("MACRO A SIZE 1 BY 10000.1 ;", "BadStatement 18"),
+        ("MACRO A SIZE 1 BY 1 SYMMETRY", "BadStatement 20"),
+        ("MACRO A SIZE 1 BY 1 ; SIZE 1 BY ;", "BadStatement 32"),
+        ("MACRO A PIN P DIRECTION UP ;", "BadStatement 24"),
+        (
+            "MACRO A PIN P DIRECTION INPUT TRISTATE ;",
+            "BadStatement 30",
+        ),
+        (
+            "MACRO A PIN P DIRECTION INPUT ; DIRECTION ;",
+            "BadStatement 42",
+        ),
+    ];
+    for (text, wanted) in texts {
+        assert_eq!(rt; told(&rt, rt.alloc(), text)?.as_str(), wanted, "{text}");
+    }
+    Ok(())
+}
+
+#[test]
+fn a_library_has_at_most_16384_masters(rt: HostRuntime) -> Result<(), Fail> {
+    let alloc = rt.alloc();
+    let mut text = String::new(alloc);
+    for number in 0..16_384 {
+        write!(text, "MACRO m{number} END m{number}\n")?;
+    }
+    assert!(rt; text.len() <= 1_000_000);
+    let library = read_lef(alloc, text.as_bytes()).map_err(|_| "the text is a library")?;
+    assert_eq!(rt; library.masters().len(), 16_384);
+    assert!(rt; library.find(b"m16383").is_some());
+    let again = format!(in alloc; "{text}MACRO m7")?;
+    let place = text.len() + 6;
+    assert_eq!(rt;
+        told(&rt, alloc, again.as_str())?,
+        format!(in alloc; "TwiceNamed {place}")?
+    );
+    let more = format!(in alloc; "{text}MACRO m16384 END m16384\n")?;
+    assert_eq!(rt;
+        told(&rt, alloc, more.as_str())?,
+        format!(in alloc; "TooManyMasters {place}")?
+    );
+    Ok(())
+}
