@@ -4,7 +4,7 @@ ghost use Rattle.std.specs.Prelude.{◌≡◌, ℕ, List, map, IfOk, OnOk, codes
 ghost use Rattle.eco_text.specs.Cursor.{token};
 ghost use Rattle.eco_def.specs.Parsing.{is_word, many, valued};
 ghost use Rattle.eco_def.specs.Grammar.{orient_of, place, comp_clause, comp_place};
-ghost use Rattle.eco_def.specs.Limits.{new_name_within, comp_new_within, comp_within};
+ghost use Rattle.eco_def.specs.Limits.{comp_new_within, comp_within};
 ghost use Rattle.eco_def.specs.Known.{knows, Adds};
 ghost use Rattle.eco_def.specs.View.{comp_in, comps_in};
 ghost use Rattle.eco_def.specs.Reading.{Reads, IsAhead, as_is};
@@ -15,7 +15,7 @@ use crate::names::Names;
 use crate::orient::Orient;
 use crate::place::Place;
 use crate::reader::Reader;
-use eco_text::{Point, Word};
+use eco_text::Point;
 use sqlite_items::Items;
 use std::alloc::Global;
 use std::collections::HashMap;
@@ -93,24 +93,6 @@ impl<'a> Reader<'a> {
             place = place.or(clause);
         }
         Ok(place)
-    }
-
-    /// A name that hasn't stood yet and for which there is room. It is added to those that have stood.
-    pub fn new_name(&mut self, names: &mut Names<'a>, room: bool) -> Result<Word, DefFault>
-        ensures reads { Reads 1 token (new_name_within room (knows names.old)) self.old self.new result }
-        ensures names { IfOk result (λ w. Adds names.old names.new (token self.old.text w).bytes) }
-        ensures ahead { IfOk result (λ w. IsAhead self.old self.new w) }
-    {
-        if !self.next_is_name() {
-            return Err(self.bad_statement());
-        }
-        if !self.add_ahead(names)? {
-            return Err(self.twice_named());
-        }
-        if !room {
-            return Err(self.limit());
-        }
-        self.take()
     }
 
     #[tactic(auto, unfolding(crate::specs::Limits::comp_new_within))]

@@ -42,6 +42,9 @@ fn in_text_order(
 ) -> Result<Items<NetStatement>, AllocError>
     ensures { IfOk result (λ all. all ≡ both special_first special nets) }
 {
+    if special.is_empty() {
+        return Ok(nets);
+    }
     if special_first {
         let mut all = special;
         all.append(nets)?;
