@@ -2,11 +2,11 @@
 use Rattle.std.proofs.Common.{◌≡◌, ℕ, List, [], ◌∷◌, ◌++◌, Result, Ok, Err, refl, codes, decimal}
 use Rattle.eco_def.specs.Design.{Design}
 use Rattle.eco_def.specs.Grammar.{parts, design_of, place, some_place, comp_clause, comp_place, comp_new, section_head, section_end, comp_section, joint_end, joint, some_use, net_clause_new, net_tail, net_new, special_section, net_section, units, part_new}
-use Rattle.eco_def.specs.declared.first_fault.FirstFault.{FirstFault}
+use Rattle.eco_def.specs.declared.fault.DefFault.{DefFault}
 use Rattle.eco_issued.specs.Changes.{NewJoint}
 use Rattle.eco_issued.specs.Issued.{issued_text}
 
-abbrev issued_of : List ℕ → Result Design FirstFault → List NewJoint → List (List ℕ) → List ℕ
+abbrev issued_of : List ℕ → Result Design DefFault → List NewJoint → List (List ℕ) → List ℕ
 issued_of text (Ok d) joints nets = issued_text text d joints nets
 issued_of text (Err e) joints nets = []
 
