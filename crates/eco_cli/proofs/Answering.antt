@@ -29,7 +29,7 @@ bad_ends : {T I O : Type 0} (h : Told T I O) (left : I → Option (List ℕ)) (t
 bad_ends h left taken old new words n (Ok k) bad comes = absurd (asked_is_good words comes.0 n comes.1 bad)
 bad_ends h left taken old new words n (Err (failed.Words k)) bad comes = refl
 bad_ends h left taken old new words n (Err failed.TooLong) bad comes = absurd (asked_is_good words comes.0 n comes.1 bad)
-bad_ends h left taken old new words n (Err failed.Def) bad comes = absurd (asked_is_good words comes.0 n comes.1 bad)
+bad_ends h left taken old new words n (Err (failed.Def fault)) bad comes = absurd (asked_is_good words comes.0 n comes.1 bad)
 bad_ends h left taken old new words n (Err (failed.Move fault)) bad comes = absurd (asked_is_good words comes.0 n comes.1 bad)
 bad_ends h left taken old new words n (Err failed.Read) bad comes = absurd (asked_is_good words comes.0 n comes.1 bad)
 bad_ends h left taken old new words n (Err failed.Write) bad comes = absurd (asked_is_good words comes.0 n comes.1 bad)
@@ -46,7 +46,7 @@ done_ends : {T I O : Type 0} (h : Told T I O) (left : I → Option (List ℕ)) (
 done_ends h left taken old new words before after (Ok n) is comes told = (n, comes, told)
 done_ends h left taken old new words before after (Err (failed.Words n)) is comes told = cc
 done_ends h left taken old new words before after (Err failed.TooLong) is comes told = cc
-done_ends h left taken old new words before after (Err failed.Def) is comes told = cc
+done_ends h left taken old new words before after (Err (failed.Def fault)) is comes told = cc
 done_ends h left taken old new words before after (Err (failed.Move fault)) is comes told = cc
 done_ends h left taken old new words before after (Err failed.Read) is comes told = cc
 done_ends h left taken old new words before after (Err failed.Write) is comes told = cc
@@ -63,7 +63,7 @@ refused_ends : {T I O : Type 0} (h : Told T I O) (left : I → Option (List ℕ)
 refused_ends h left taken old new words before after (Ok n) is comes told = cc
 refused_ends h left taken old new words before after (Err (failed.Words n)) is comes told = cc
 refused_ends h left taken old new words before after (Err failed.TooLong) is comes told = (failed.TooLong, tt, comes, told)
-refused_ends h left taken old new words before after (Err failed.Def) is comes told = (failed.Def, tt, comes, told)
+refused_ends h left taken old new words before after (Err (failed.Def fault)) is comes told = (failed.Def fault, tt, comes, told)
 refused_ends h left taken old new words before after (Err (failed.Move fault)) is comes told = (failed.Move fault, tt, comes, told)
 refused_ends h left taken old new words before after (Err failed.Read) is comes told = cc
 refused_ends h left taken old new words before after (Err failed.Write) is comes told = cc
@@ -80,7 +80,7 @@ words_end : {T I O : Type 0} (h : Told T I O) (left : I → Option (List ℕ)) (
 words_end h left taken old new words before after (Ok n) is comes told = cc
 words_end h left taken old new words before after (Err (failed.Words n)) is comes told = (n, comes, told)
 words_end h left taken old new words before after (Err failed.TooLong) is comes told = cc
-words_end h left taken old new words before after (Err failed.Def) is comes told = cc
+words_end h left taken old new words before after (Err (failed.Def fault)) is comes told = cc
 words_end h left taken old new words before after (Err (failed.Move fault)) is comes told = cc
 words_end h left taken old new words before after (Err failed.Read) is comes told = cc
 words_end h left taken old new words before after (Err failed.Write) is comes told = cc
@@ -96,7 +96,7 @@ read_ends : {T I O : Type 0} (h : Told T I O) (left : I → Option (List ℕ)) (
 read_ends h left taken old new words (Ok n) is comes = cc
 read_ends h left taken old new words (Err (failed.Words n)) is comes = cc
 read_ends h left taken old new words (Err failed.TooLong) is comes = cc
-read_ends h left taken old new words (Err failed.Def) is comes = cc
+read_ends h left taken old new words (Err (failed.Def fault)) is comes = cc
 read_ends h left taken old new words (Err (failed.Move fault)) is comes = cc
 read_ends h left taken old new words (Err failed.Read) is comes = comes
 read_ends h left taken old new words (Err failed.Write) is comes = cc
@@ -115,7 +115,7 @@ write_ends : {T I O : Type 0} (h : Told T I O) (left : I → Option (List ℕ)) 
 write_ends h left taken old new words (Ok n) is comes = cc
 write_ends h left taken old new words (Err (failed.Words n)) is comes = cc
 write_ends h left taken old new words (Err failed.TooLong) is comes = cc
-write_ends h left taken old new words (Err failed.Def) is comes = cc
+write_ends h left taken old new words (Err (failed.Def fault)) is comes = cc
 write_ends h left taken old new words (Err (failed.Move fault)) is comes = cc
 write_ends h left taken old new words (Err failed.Read) is comes = cc
 write_ends h left taken old new words (Err failed.Write) is comes = let c = comes.2 in c.6

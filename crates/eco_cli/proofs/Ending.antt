@@ -49,7 +49,7 @@ pub reading_of : {T I O V : Type 0} (h : Told T I O) (left : I → Option (List 
 reading_of h left taken old mid new name bytes x faults (Ok v) first asked same counts none-refused reads = (text_is left name (h.sources old) x (bytes v) first reads.0, reads.1, same ∙ asked, none-refused)
 reading_of h left taken old mid new name bytes x faults (Err (failed.Words n)) first asked same counts none-refused reads = absurd reads
 reading_of h left taken old mid new name bytes x faults (Err failed.TooLong) first asked same counts none-refused reads = (text_longer left name (h.sources old) x 134217728 first reads, same ∙ asked)
-reading_of h left taken old mid new name bytes x faults (Err failed.Def) first asked same counts none-refused reads = absurd reads
+reading_of h left taken old mid new name bytes x faults (Err (failed.Def fault)) first asked same counts none-refused reads = absurd reads
 reading_of h left taken old mid new name bytes x faults (Err (failed.Move fault)) first asked same counts none-refused reads = absurd reads
 reading_of h left taken old mid new name bytes x faults (Err failed.Read) first asked same counts none-refused reads = (inr (counts.failed (fails faults reads)), same ∙ asked)
 reading_of h left taken old mid new name bytes x faults (Err failed.Write) first asked same counts none-refused reads = absurd reads
@@ -73,7 +73,7 @@ asks_both m (Some before) mid new one two = two ∙ ap (λ a. with_asked a (for_
 pub ends_reading : {T I O V : Type 0} (h : Told T I O) (left : I → Option (List ℕ)) (taken : O → Option (List ℕ)) (old new : T) (m : Move) (bytes : V → List ℕ) (e : Failure) → Reading h left taken old new m.def bytes (Err e) → h.sinks_back new ≡ h.sinks_back old → Ends h left taken old new m (Err e)
 ends_reading h left taken old new m bytes (failed.Words n) r back = absurd r
 ends_reading h left taken old new m bytes failed.TooLong r back = (r.0, r.1, back)
-ends_reading h left taken old new m bytes failed.Def r back = absurd r
+ends_reading h left taken old new m bytes (failed.Def fault) r back = absurd r
 ends_reading h left taken old new m bytes (failed.Move fault) r back = absurd r
 ends_reading h left taken old new m bytes failed.Read r back = (back, inl (r.1, r.0))
 ends_reading h left taken old new m bytes failed.Write r back = absurd r
@@ -82,14 +82,14 @@ ends_reading h left taken old new m bytes failed.Memory r back = (elim r.0 [ inl
 pub ends_planning : {T I O V : Type 0} (h : Told T I O) (left : I → Option (List ℕ)) (taken : O → Option (List ℕ)) (old new : T) (m : Move) (bytes : V → List ℕ) (v : V) (e : Failure) → Reading h left taken old new m.def bytes (Ok v) → h.sinks_back new ≡ h.sinks_back old → Planning (bytes v) m (Err e) → Ends h left taken old new m (Err e)
 ends_planning h left taken old new m bytes v (failed.Words n) r back p = absurd p
 ends_planning h left taken old new m bytes v failed.TooLong r back p = absurd p
-ends_planning h left taken old new m bytes v failed.Def r back p = (bytes v, r.0, r.1, p, r.2, back)
-ends_planning h left taken old new m bytes v (failed.Move fault) r back p = (bytes v, p.0, r.0, record { short = r.1; form = p.1 }, p.2, r.2, back)
+ends_planning h left taken old new m bytes v (failed.Def fault) r back p = (bytes v, r.0, r.1, p, r.2, back)
+ends_planning h left taken old new m bytes v (failed.Move fault) r back p = (bytes v, p.0, r.0, p.1, p.2, r.2, back)
 ends_planning h left taken old new m bytes v failed.Read r back p = absurd p
 ends_planning h left taken old new m bytes v failed.Write r back p = absurd p
 ends_planning h left taken old new m bytes v failed.Memory r back p = ((1, r.2), back, r.3)
 
 moved_is : (text : List ℕ) (m : Move) (d : DesignRead) (edits : List Edit) → length text ≤ 134217728 → Planning text m (Ok (d, edits)) → IsMoved m text (edited text 0 edits)
-moved_is text m d edits short p = record { design = design_in text d; read = record { short = short; form = p.1 }; may = p.2; issued = p.3.issued }
+moved_is text m d edits short p = record { design = design_in text d; read = record { short = short; read = p.0.read; limits = p.0.limits }; may = p.1; issued = p.2.issued }
 
 pub ends_writing : {T I O V : Type 0} (h : Told T I O) (left : I → Option (List ℕ)) (taken : O → Option (List ℕ)) (old mid new : T) (m : Move) (bytes : V → List ℕ) (v : V) (d : DesignRead) (edits : List Edit) (r : Result ℕ Failure) →
     Reading h left taken old mid m.def bytes (Ok v) → h.sinks_back mid ≡ h.sinks_back old → h.refused old ≤ h.refused mid → h.write_faults old ≤ h.write_faults mid → Planning (bytes v) m (Ok (d, edits)) →
@@ -105,7 +105,7 @@ ends_writing h left taken old mid new m bytes v d edits (Ok n) read back no-refu
 )
 ends_writing h left taken old mid new m bytes v d edits (Err (failed.Words n)) read back no-refused no-fault p w = absurd w
 ends_writing h left taken old mid new m bytes v d edits (Err failed.TooLong) read back no-refused no-fault p w = absurd w
-ends_writing h left taken old mid new m bytes v d edits (Err failed.Def) read back no-refused no-fault p w = absurd w
+ends_writing h left taken old mid new m bytes v d edits (Err (failed.Def fault)) read back no-refused no-fault p w = absurd w
 ends_writing h left taken old mid new m bytes v d edits (Err (failed.Move fault)) read back no-refused no-fault p w = absurd w
 ends_writing h left taken old mid new m bytes v d edits (Err failed.Read) read back no-refused no-fault p w = (
   w.1 ∙ back,

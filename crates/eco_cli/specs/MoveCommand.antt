@@ -4,7 +4,8 @@ use Rattle.std.specs.Option.{option_map}
 use Rattle.eco_text.specs.Causes.{Rose}
 use Rattle.eco_def.specs.Design.{Design}
 use Rattle.eco_def.specs.Named.{names_of}
-use Rattle.eco_def.specs.FirstForm.{IsFirstForm}
+use Rattle.eco_def.specs.Grammar.{design_of}
+use Rattle.eco_def.specs.Limits.{WithinLimits, reading_of}
 use Rattle.eco_def.specs.declared.design.Design.{Design as DesignRead}
 use Rattle.eco_def.specs.Sections.{IsReadingOf}
 use Rattle.eco_def.specs.View.{design_in}
@@ -31,10 +32,11 @@ asks k m old new = new ≡ option_map (λ before. before ++ take k (for_source m
 abbrev pub one_joint : Move → List NewJoint
 one_joint m = record { comp = m.comp; pin = m.pin; net = m.to } ∷ []
 
--- the text of the move's DEF is of the form that is read, and this is its design
+-- the text of the move's DEF has this design, within the limits
 pub record HasDesign (text : List ℕ) (d : Design) : Type 0 where
   pub short : length text ≤ 134217728
-  pub form : IsFirstForm text d
+  pub read : design_of text ≡ Ok d
+  pub limits : WithinLimits d
 
 -- the move can be made, and gives this text
 pub record IsMoved (m : Move) (text : List ℕ) (moved : List ℕ) : Type 0 where
@@ -52,7 +54,7 @@ abbrev pub GivesFront : {O : Type 0} → (O → Option (List ℕ)) → Option (L
 GivesFront {O} taken old new bytes = (sink : O) × (new ≡ with_back old sink) × ((some : List ℕ) → taken sink ≡ Some some → (n : ℕ) × (some ≡ take n bytes))
 
 -- How a move ends, by what the host was and is:
--- the output holds the moved text; or the DEF is too long, has no design of that form, or the move is refused, and no output is opened;
+-- the output holds the moved text; or the DEF is too long or has no design, or the move is refused, and no output is opened;
 -- or an open or a read failed; or a write; or memory ran out.
 abbrev pub Ends : {T I O : Type 0} → Told T I O → (I → Option (List ℕ)) → (O → Option (List ℕ)) → T → T → Move → Result ℕ Failure → Type 0
 Ends h left taken old new m (Ok count) = (text : List ℕ) × (moved : List ℕ) × IsRead (h.sources old) left m.def text × IsMoved m text moved
@@ -60,7 +62,7 @@ Ends h left taken old new m (Ok count) = (text : List ℕ) × (moved : List ℕ)
 Ends h left taken old new m (Err (failed.Words n)) = ⊥
 Ends h left taken old new m (Err failed.TooLong) = ((text : List ℕ) → IsText (h.sources old) left m.def text → 134217728 < length text)
     × asks 1 m (h.asked old) (h.asked new) × (h.sinks_back new ≡ h.sinks_back old)
-Ends h left taken old new m (Err failed.Def) = (text : List ℕ) × IsRead (h.sources old) left m.def text × (length text ≤ 134217728) × ((d : Design) → IsFirstForm text d → ⊥)
+Ends h left taken old new m (Err (failed.Def fault)) = (text : List ℕ) × IsRead (h.sources old) left m.def text × (length text ≤ 134217728) × (reading_of text ≡ Err fault)
     × asks 1 m (h.asked old) (h.asked new) × (h.sinks_back new ≡ h.sinks_back old)
 Ends h left taken old new m (Err (failed.Move fault)) = (text : List ℕ) × (d : Design) × IsRead (h.sources old) left m.def text × HasDesign text d
     × (move_fault (names_of d) m.comp m.pin m.from m.to ≡ Some fault) × asks 1 m (h.asked old) (h.asked new) × (h.sinks_back new ≡ h.sinks_back old)
@@ -88,9 +90,9 @@ Reading h left taken old new name bytes (Err e) = ⊥
 
 -- How the planning of a move in a text ends.
 abbrev pub Planning : List ℕ → Move → Result (DesignRead × List Edit) Failure → Type 0
-Planning text m (Ok p) = IsReadingOf text p.0 × IsFirstForm text (design_in text p.0) × (move_fault (names_of (design_in text p.0)) m.comp m.pin m.from m.to ≡ None) × IsOverlayOf text (design_in text p.0) (one_joint m) [] p.1
-Planning text m (Err failed.Def) = (d : Design) → IsFirstForm text d → ⊥
-Planning text m (Err (failed.Move fault)) = (d : Design) × IsFirstForm text d × (move_fault (names_of d) m.comp m.pin m.from m.to ≡ Some fault)
+Planning text m (Ok p) = IsReadingOf text p.0 × (move_fault (names_of (design_in text p.0)) m.comp m.pin m.from m.to ≡ None) × IsOverlayOf text (design_in text p.0) (one_joint m) [] p.1
+Planning text m (Err (failed.Def fault)) = reading_of text ≡ Err fault
+Planning text m (Err (failed.Move fault)) = (d : Design) × HasDesign text d × (move_fault (names_of d) m.comp m.pin m.from m.to ≡ Some fault)
 Planning text m (Err failed.Memory) = Unit {0}
 Planning text m (Err e) = ⊥
 
@@ -107,6 +109,6 @@ Writing h left taken old new name bytes (Err e) = ⊥
 -- a refusal of the DEF or of the move
 abbrev pub IsRefusal : Failure → Type 0
 IsRefusal failed.TooLong = Unit {0}
-IsRefusal failed.Def = Unit {0}
+IsRefusal (failed.Def fault) = Unit {0}
 IsRefusal (failed.Move fault) = Unit {0}
 IsRefusal f = ⊥

@@ -3,6 +3,7 @@
 ghost use Rattle.std.specs.Prelude.{◌≡◌};
 
 use eco_base::MoveFault;
+use eco_def::DefFault;
 
 /// Why a command didn't do its work.
 #[derive(Clone, Copy, Debug, Drop, PartialEq, Eq)]
@@ -11,8 +12,8 @@ pub enum Failure {
     Words(usize),
     /// The DEF is longer than 134,217,728 bytes.
     TooLong,
-    /// The DEF is none that is read so far.
-    Def,
+    /// The DEF has no design, and this is its first fault.
+    Def(DefFault),
     /// The move is refused.
     Move(MoveFault),
     /// A source, or an open of the host.

@@ -45,8 +45,8 @@ fn plan(alloc: Global, text: &[u8], asked: &MoveWords<'_>) -> Result<(Design, Ov
 {
     let design = match read_def(alloc, text) {
         Ok(design) => design,
-        Err(DefFault::NotYet) => return Err(Failure::Def),
         Err(DefFault::Memory) => return Err(Failure::Memory),
+        Err(fault) => return Err(Failure::Def(fault)),
     };
     let comp = asked.comp.as_bytes();
     let pin = asked.pin.as_bytes();

@@ -229,10 +229,25 @@ SPECIALNETS 2 ;
 END SPECIALNETS
 NETS 6 ;",
     )?;
-    for text in ["", whole.as_str(), "DESIGN top ;"] {
+    let whole = run_line(rt.alloc(), &line_of(rt.alloc())?, &whole, NONE)?;
+    assert_eq!(rt; whole.status, 0);
+    let faults = [
+        ("", "eco: def Unended place=0\n"),
+        ("DESIGN top ;", "eco: def Unended place=12\n"),
+        ("DESIGN \"top ;", "eco: def Text OpenQuote place=7\n"),
+        ("EXTRA 1 ;", "eco: def UnknownHeading place=0\n"),
+        (
+            "UNITS DISTANCE MICRONS 0 ;",
+            "eco: def BadStatement place=23\n",
+        ),
+        ("NETS 0 ; END NETS NETS", "eco: def TwiceNamed place=18\n"),
+        ("NETS 1 ; - MUSTJOIN ;", "eco: def MustJoin place=11\n"),
+        ("END DESIGN", "eco: def Missing which=UNITS\n"),
+    ];
+    for (text, printed) in faults {
         let answer = run_line(rt.alloc(), &line_of(rt.alloc())?, text, NONE)?;
         assert_eq!(rt; answer.status, 1);
-        assert_eq!(rt; answer.printed.as_str(), "eco: def NotYet\n");
+        assert_eq!(rt; answer.printed.as_str(), printed);
         assert!(rt; answer.outputs.is_empty());
     }
     Ok(())
@@ -323,7 +338,10 @@ fn the_longest_def_and_one_byte_more(rt: HostRuntime) -> Result<(), Fail> {
     let mut text = String::from_utf8(vec![in alloc; b' '; 134_217_728]?)?;
     let longest = run_line(alloc, &line, &text, NONE)?;
     assert_eq!(rt; longest.status, 1);
-    assert_eq!(rt; longest.printed.as_str(), "eco: def NotYet\n");
+    assert_eq!(rt;
+        longest.printed.as_str(),
+        "eco: def Unended place=134217728\n"
+    );
     text.push(' ')?;
     let longer = run_line(alloc, &line, &text, NONE)?;
     assert_eq!(rt; longer.status, 1);

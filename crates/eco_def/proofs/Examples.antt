@@ -2,11 +2,12 @@
 use Rattle.std.proofs.Common.{◌≡◌, ℕ, List, ◌++◌, Result, Ok, Err, refl, codes}
 use Rattle.eco_def.specs.Design.{Design}
 use Rattle.eco_def.specs.Grammar.{parts, design_of, place, some_place, comp_clause, comp_place, comp_new, section_head, section_end, comp_section, joint_end, joint, some_use, net_clause_new, net_tail, net_new, special_section, net_section, units, part_new}
-use Rattle.eco_def.specs.declared.first_fault.FirstFault.{FirstFault}
-use Rattle.eco_def.specs.declared.first_fault.FirstFault.TheVariants.{OpenQuote, Unended, BadStatement, TwiceNamed, MustJoin, UnknownHeading, Missing}
-use Rattle.eco_def.specs.declared.first_fault.Section.TheVariants.{Units as NoUnits, Nets as NoNets}
+use Rattle.eco_text.specs.declared.word.TextFault.TheVariants.{OpenQuote}
+use Rattle.eco_def.specs.declared.fault.DefFault.{DefFault}
+use Rattle.eco_def.specs.declared.fault.DefFault.TheVariants.{Text, Unended, BadStatement, TwiceNamed, MustJoin, UnknownHeading, Missing}
+use Rattle.eco_def.specs.declared.fault.Section.TheVariants.{Units as NoUnits, Nets as NoNets}
 
-abbrev IsFault : Result Design FirstFault → FirstFault → Type 0
+abbrev IsFault : Result Design DefFault → DefFault → Type 0
 IsFault (Ok d) f = ⊥
 IsFault (Err e) f = e ≡ f
 
@@ -17,7 +18,7 @@ unended : IsFault (design_of (cut_text)) (Unended 78)
 unfolding parts part_new units comp_section section_head section_end net_section net_new joint special_section net_tail net_clause_new some_use place some_place comp_clause comp_place comp_new joint_end
 unended = refl
 
-open_quote : IsFault (design_of (cut_text ++ codes " \"x")) (OpenQuote 79)
+open_quote : IsFault (design_of (cut_text ++ codes " \"x")) (Text (OpenQuote 79))
 unfolding parts part_new units comp_section section_head section_end net_section net_new joint special_section net_tail net_clause_new some_use place some_place comp_clause comp_place comp_new joint_end
 open_quote = refl
 

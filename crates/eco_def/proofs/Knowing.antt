@@ -7,7 +7,7 @@ use Rattle.std.specs.Str.{bytes_eq}
 use Rattle.std.proofs.Common.{◌≡◌, ℕ, Bool, true, false, ◌||◌, List, [], ◌∷◌, ◌++◌, Result, refl, ap, sym, subst, ◌∙◌, if◌then◌else◌}
 use Rattle.std.proofs.Math.Path.{fun_ext}
 use Rattle.std.proofs.lemmas.List.Folds.{list_any-append}
-use Rattle.eco_def.specs.declared.first_fault.FirstFault.{FirstFault}
+use Rattle.eco_def.specs.declared.fault.DefFault.{DefFault}
 use Rattle.eco_def.specs.Known.{knows, Adds}
 use Rattle.eco_def.specs.Parsing.{Parser, is_among}
 use Rattle.eco_def.specs.Reading.{Reading, Reads}
@@ -25,7 +25,8 @@ known_more old new ns ms n is known adds q =
     adds q ∙ ap (λ b. if bytes_eq n q then true else b) (known q) ∙ or_if (bytes_eq n q) (is_among ns q)
     ∙ sym (list_any-append (λ m. bytes_eq m q) ns (n ∷ [])) ∙ ap (λ ks. is_among ks q) (sym is)
 
--- what is read with the known names is read with those that have stood
-pub read_known : {A B : Type 0} (n : ℕ) (view : List ℕ → B → A) (item : (List ℕ → Bool) → Parser A) (names : HashMap (Bor (List ℕ)) (Unit {0}) (BuildHasherDefault FoldHasher)) (ns : List (List ℕ)) (old new : Reading) (r : Result B FirstFault) →
-    ((q : List ℕ) → knows names q ≡ is_among ns q) → Reads n view (item (knows names)) old new r → Reads n view (item (is_among ns)) old new r
-read_known n view item names ns old new r known reads = subst (λ k. Reads n view (item k) old new r) (fun_ext known) reads
+-- what is read with the known names, and with so much room, is read with those that have stood and with the same room
+pub read_known_in : {A B R : Type 0} (n : ℕ) (view : List ℕ → B → A) (item : R → (List ℕ → Bool) → Parser A) (names : HashMap (Bor (List ℕ)) (Unit {0}) (BuildHasherDefault FoldHasher)) (ns : List (List ℕ)) (old new : Reading) (r : Result B DefFault) (room same : R) →
+    room ≡ same → ((q : List ℕ) → knows names q ≡ is_among ns q) → Reads n view (item room (knows names)) old new r → Reads n view (item same (is_among ns)) old new r
+read_known_in n view item names ns old new r room same is known reads =
+    subst (λ k. Reads n view (item same k) old new r) (fun_ext known) (subst (λ k. Reads n view (item k (knows names)) old new r) is reads)

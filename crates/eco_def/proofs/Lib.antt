@@ -1,10 +1,18 @@
 pub mod Loops
 mod Knowing
 pub mod Placing
-mod Passing
-pub mod Headings
+mod PassedOver
+mod PinClauses
+mod Rooms
 mod Parts
-pub mod WalkOrder
-mod FirstForms
+mod Lying
+mod Limited
+mod LimitedStatements
+mod LimitedParts
+mod SectionsOnce
+mod LimitLaws
 pub mod Designs
+mod WholeText
+mod SpecialNets
+pub mod WalkOrder
 mod Examples

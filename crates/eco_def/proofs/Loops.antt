@@ -3,9 +3,9 @@ use Rattle.std.proofs.Common.{◌≡◌, ℕ, zero, suc, ◌≤◌, Bool, true, 
 use Rattle.std.specs.Option.{option_or, option_map}
 use Rattle.eco_text.specs.Words.{Token, Walk}
 use Rattle.eco_def.specs.Parsing.{Parser, then_read, begins, many, many_for, first_some, size}
-use Rattle.eco_def.specs.declared.first_fault.FirstFault.{FirstFault}
-use Rattle.eco_def.specs.declared.first_fault.FirstFault.TheVariants.{OpenQuote, UnknownHeading, Unended, BadStatement, TwiceNamed, MustJoin, Missing, Memory}
+use Rattle.eco_def.specs.declared.fault.DefFault.{DefFault}
 use Rattle.eco_def.specs.Reading.{Reading, left, Reads, IsInOrder}
+use Rattle.eco_def.proofs.PassedOver.{refuses_as}
 
 -- How far such a loop has come: it began at start, has read front, and has left what now has.
 pub record Loops {A : Type 0} (goes : Token → Bool) (item : List A → Parser A) (start : Reading) (front : List A) (now : Reading) : Type 0 where
@@ -39,22 +39,17 @@ one_more goes item view start front old new x l on reads = go l.fuel l.enough l.
     }
 
 -- the value that goes wrong
-pub stuck : {A B C : Type 0} (goes : Token → Bool) (item : List A → Parser A) (view : List ℕ → B → A) (views : List ℕ → C → List A) (start : Reading) (front : List A) (old new : Reading) (e : FirstFault) →
+pub stuck : {A B C : Type 0} (goes : Token → Bool) (item : List A → Parser A) (view : List ℕ → B → A) (views : List ℕ → C → List A) (start : Reading) (front : List A) (old new : Reading) (e : DefFault) →
     Loops goes item start front old → true ≡ begins goes (left old) → Reads 1 view (item front) old new (Err e) → Reads 0 views (many goes item) start new (Err e)
-stuck goes item view views start front old new e l on reads = go e reads
+stuck goes item view views start front old new e l on reads = record {
+  text = reads.text ∙ l.text;
+  shorter = tt;
+  order = λ lo hi o. tt;
+  value = refuses_as (item front (left old)) (many goes item (left start)) e failed reads.value;
+}
   where
-    failed : (k : FirstFault) → item front (left old) ≡ Err k → many goes item (left start) ≡ Err k
+    failed : (k : DefFault) → item front (left old) ≡ Err k → many goes item (left start) ≡ Err k
     failed k is = sym l.same ∙ turn goes item l.fuel front (left old) on ∙ ap (λ r. then_read r (λ x. many_for l.fuel goes item (front ++ x ∷ []))) is
-
-    go : (e : FirstFault) → Reads 1 view (item front) old new (Err e) → Reads 0 views (many goes item) start new (Err e)
-    go Memory r = record { text = r.text ∙ l.text; shorter = tt; order = λ lo hi o. tt; value = tt }
-    go (OpenQuote p) r = record { text = r.text ∙ l.text; shorter = tt; order = λ lo hi o. tt; value = failed (OpenQuote p) r.value }
-    go (UnknownHeading p) r = record { text = r.text ∙ l.text; shorter = tt; order = λ lo hi o. tt; value = failed (UnknownHeading p) r.value }
-    go (Unended p) r = record { text = r.text ∙ l.text; shorter = tt; order = λ lo hi o. tt; value = failed (Unended p) r.value }
-    go (BadStatement p) r = record { text = r.text ∙ l.text; shorter = tt; order = λ lo hi o. tt; value = failed (BadStatement p) r.value }
-    go (TwiceNamed p) r = record { text = r.text ∙ l.text; shorter = tt; order = λ lo hi o. tt; value = failed (TwiceNamed p) r.value }
-    go (MustJoin p) r = record { text = r.text ∙ l.text; shorter = tt; order = λ lo hi o. tt; value = failed (MustJoin p) r.value }
-    go (Missing s) r = record { text = r.text ∙ l.text; shorter = tt; order = λ lo hi o. tt; value = failed (Missing s) r.value }
 
 -- the end of the values
 pub ended : {A C : Type 0} (goes : Token → Bool) (item : List A → Parser A) (views : List ℕ → C → List A) (start : Reading) (xs : C) (now : Reading) →

@@ -1,8 +1,9 @@
 -- The words of a text stand one behind another.
-use Rattle.std.proofs.Common.{◌≡◌, ℕ, ◌+◌, ◌<◌, ◌≤◌, ◌==◌, ◌&&◌, not, Bool, true, false, List, [], ◌∷◌, ◌++◌, length, refl, sym, subst, arith}
-use Rattle.eco_text.specs.Words.{Token, Walk, finished, open_quote, word_then, Mode, between, comment, plain, quote, is_blank, plain_word, quoted_word, step, ends, walk, walk_of, ◌+++◌}
+use Rattle.std.proofs.Common.{◌≡◌, ℕ, ◌+◌, ◌<◌, ◌==◌, ◌&&◌, not, Bool, true, false, List, [], ◌∷◌, ◌++◌, length, refl, sym, subst, arith}
+use Rattle.eco_text.specs.Words.{Token, Mode, between, comment, plain, quote, is_blank, plain_word, quoted_word, step, ends, walk, walk_of, ◌+++◌}
 use Rattle.eco_text.proofs.Stepping.{stepped}
 use Rattle.eco_def.specs.Reading.{IsInOrder}
+use Rattle.eco_def.proofs.Placing.{earlier}
 
 -- where the word begins that a mode stands in, or the place itself
 abbrev begin : Mode → ℕ → ℕ
@@ -17,11 +18,6 @@ Began between p = Unit {0}
 Began comment p = Unit {0}
 Began (plain s w) p = s < p
 Began (quote e s w) p = s < p
-
-earlier : (lo lo' hi : ℕ) (u : Walk) → lo' ≤ lo → IsInOrder lo hi u → IsInOrder lo' hi u
-earlier lo lo' hi (finished place) le order = (omega (arith, le, order.0), order.1)
-earlier lo lo' hi (open_quote place) le order = (omega (arith, le, order.0), order.1)
-earlier lo lo' hi (word_then w u) le order = (omega (arith, le, order.0), order.1, order.2)
 
 -- one byte on
 along : (m : Mode) (p b lo hi : ℕ) (bs : List ℕ) (k : Mode) (es : List Token) → step m p b ≡ k → ends m p b ≡ es → IsInOrder lo hi (es +++ walk k (p + 1) bs) → IsInOrder lo hi (walk m p (b ∷ bs))

@@ -6,9 +6,10 @@ use Rattle.std.specs.Option.{option_or}
 use Rattle.eco_text.specs.Numbers.{number_of, at_most, integer_of}
 use Rattle.std.specs.List.{list_any}
 use Rattle.eco_text.specs.Words.{Token, Walk, finished, open_quote, word_then, walk_of}
-use Rattle.eco_def.specs.declared.first_fault.FirstFault.{FirstFault}
-use Rattle.eco_def.specs.declared.first_fault.FirstFault.TheVariants.{OpenQuote, Unended, BadStatement, TwiceNamed, MustJoin, UnknownHeading, Missing}
-use Rattle.eco_def.specs.declared.first_fault.Section.TheVariants.{Units as NoUnits, Components as NoComponents, Nets as NoNets}
+use Rattle.eco_text.specs.declared.word.TextFault.TheVariants.{OpenQuote}
+use Rattle.eco_def.specs.declared.fault.DefFault.{DefFault}
+use Rattle.eco_def.specs.declared.fault.DefFault.TheVariants.{Text, Unended, BadStatement, TwiceNamed, MustJoin, UnknownHeading, Missing}
+use Rattle.eco_def.specs.declared.fault.Section.TheVariants.{Units as NoUnits, Components as NoComponents, Nets as NoNets}
 use Rattle.eco_def.specs.Parsing.{Parser, ◌>>=◌, give, refuse, any, choose, is_word, word, name, new_name, is_among, valued, pass_to, pass_to_both, many, many_until, first_some}
 use Rattle.eco_text.specs.declared.geometry.Dir.{Dir}
 use Rattle.eco_text.specs.declared.geometry.Dir.TheVariants.{Input, Output, Inout}
@@ -308,7 +309,7 @@ part before = part_new (have before)
 -- END DESIGN, of which a fault stands at END where another word follows it
 abbrev pub end_design : Parser Token
 end_design (finished place) = Err (Unended place)
-end_design (open_quote place) = Err (OpenQuote place)
+end_design (open_quote place) = Err (Text (OpenQuote place))
 end_design (word_then end u) = choose (is_word (codes "DESIGN")) any (λ v. refuse (λ place. UnknownHeading end.start) v) u
 
 unfoldable pub parts : Parser (List Part)
@@ -345,20 +346,20 @@ abbrev pub or_none : {A : Type 0} → Option (List A) → List A
 or_none None = []
 or_none (Some xs) = xs
 
-abbrev pub design_from : List Part → Option ℕ → Option (List Comp) → Option NetSection → Result Design FirstFault
+abbrev pub design_from : List Part → Option ℕ → Option (List Comp) → Option NetSection → Result Design DefFault
 design_from ps None cs ns = Err (Missing NoUnits)
 design_from ps (Some n) None ns = Err (Missing NoComponents)
 design_from ps (Some n) (Some cs) None = Err (Missing NoNets)
 design_from ps (Some n) (Some cs) (Some ns) = Ok (record { units = n; comps = cs; pins = or_none (first_some (map pins_of ps)); special = or_none (first_some (map special_of ps)); nets = ns })
 
 -- the design of parts: the last UNITS counts, and each section stands once
-abbrev pub parts_design : List Part → Result Design FirstFault
+abbrev pub parts_design : List Part → Result Design DefFault
 parts_design ps = design_from ps (last_some (map units_of ps)) (first_some (map comps_of ps)) (first_some (map nets_of ps))
 
-abbrev pub design_read : Result (List Part × Walk) FirstFault → Result Design FirstFault
+abbrev pub design_read : Result (List Part × Walk) DefFault → Result Design DefFault
 design_read (Err e) = Err e
 design_read (Ok x) = parts_design x.0
 
 -- the design of a text, or its first fault, whatever follows END DESIGN
-abbrev pub design_of : List ℕ → Result Design FirstFault
+abbrev pub design_of : List ℕ → Result Design DefFault
 design_of text = design_read (parts (walk_of text))

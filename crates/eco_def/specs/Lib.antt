@@ -1,9 +1,11 @@
 pub mod Parsing
 pub mod Design
 pub mod Grammar
-pub mod FirstForm
+pub mod Limits
 pub mod View
 pub mod Reading
 pub mod Known
+pub mod TopPins
 pub mod Sections
+pub mod Answers
 pub mod Named

@@ -3,14 +3,15 @@ use Rattle.std.specs.Prelude.{ℕ, zero, suc, ◌==◌, nat_le, ◌&&◌, ◌||�
 use Rattle.std.specs.List.{list_all, list_any}
 use Rattle.std.specs.Str.{bytes_eq, byte}
 use Rattle.eco_text.specs.Words.{Token, Walk, finished, open_quote, word_then}
-use Rattle.eco_def.specs.declared.first_fault.FirstFault.{FirstFault}
-use Rattle.eco_def.specs.declared.first_fault.FirstFault.TheVariants.{OpenQuote, Unended, BadStatement, TwiceNamed}
+use Rattle.eco_text.specs.declared.word.TextFault.TheVariants.{OpenQuote}
+use Rattle.eco_def.specs.declared.fault.DefFault.{DefFault}
+use Rattle.eco_def.specs.declared.fault.DefFault.TheVariants.{Text, Unended, BadStatement, TwiceNamed}
 
 -- what reads a value: the value and the words behind it, or the first fault
 abbrev pub Parser : Type 0 → Type 0
-Parser A = Walk → Result (A × Walk) FirstFault
+Parser A = Walk → Result (A × Walk) DefFault
 
-abbrev pub then_read : {A B : Type 0} → Result (A × Walk) FirstFault → (A → Parser B) → Result (B × Walk) FirstFault
+abbrev pub then_read : {A B : Type 0} → Result (A × Walk) DefFault → (A → Parser B) → Result (B × Walk) DefFault
 then_read (Ok x) f = f x.0 x.1
 then_read (Err e) f = Err e
 
@@ -23,9 +24,9 @@ abbrev pub give : {A : Type 0} → A → Parser A
 give x u = Ok (x, u)
 
 -- A fault at the next word. A text that ends there is unended, whatever the fault.
-abbrev pub refuse : {A : Type 0} → (ℕ → FirstFault) → Parser A
+abbrev pub refuse : {A : Type 0} → (ℕ → DefFault) → Parser A
 refuse fault (finished place) = Err (Unended place)
-refuse fault (open_quote place) = Err (OpenQuote place)
+refuse fault (open_quote place) = Err (Text (OpenQuote place))
 refuse fault (word_then w u) = Err (fault w.start)
 
 -- the next word passes a test
@@ -37,7 +38,7 @@ begins p (word_then w u) = p w
 -- the next word, whatever it is
 abbrev pub any : Parser Token
 any (finished place) = Err (Unended place)
-any (open_quote place) = Err (OpenQuote place)
+any (open_quote place) = Err (Text (OpenQuote place))
 any (word_then w u) = Ok (w, u)
 
 -- one of two readings, by the next word
@@ -96,13 +97,13 @@ valued f u = valued_as (f (bytes_ahead u)) u
 -- the words up to one that passes a test, and that one
 abbrev pub pass_to : (Token → Bool) → Parser Token
 pass_to p (finished place) = Err (Unended place)
-pass_to p (open_quote place) = Err (OpenQuote place)
+pass_to p (open_quote place) = Err (Text (OpenQuote place))
 pass_to p (word_then w u) = if p w then Ok (w, u) else pass_to p u
 
 -- the words up to one that passes the first test and one that passes the second behind it, and those two
 abbrev pub pass_to_both : (Token → Bool) → (Token → Bool) → Parser Token
 pass_to_both p q (finished place) = Err (Unended place)
-pass_to_both p q (open_quote place) = Err (OpenQuote place)
+pass_to_both p q (open_quote place) = Err (Text (OpenQuote place))
 pass_to_both p q (word_then w u) = if p w && begins q u then any u else pass_to_both p q u
 
 abbrev pub size : Walk → ℕ

@@ -5,8 +5,8 @@ use Rattle.eco_text.specs.Cursor.{Cursor, from, after}
 use Rattle.eco_text.specs.declared.word.Word.{Word}
 use Rattle.eco_text.specs.declared.word.TextFault.{TextFault}
 use Rattle.eco_def.specs.Parsing.{Parser, size}
-use Rattle.eco_def.specs.declared.first_fault.FirstFault.{FirstFault}
-use Rattle.eco_def.specs.declared.first_fault.FirstFault.TheVariants.{OpenQuote, UnknownHeading, Unended, BadStatement, TwiceNamed, MustJoin, Missing, Memory}
+use Rattle.eco_def.specs.declared.fault.DefFault.{DefFault}
+use Rattle.eco_def.specs.declared.fault.DefFault.TheVariants.{Text, UnknownHeading, Unended, BadStatement, TwiceNamed, MustJoin, Limit, Missing, Memory}
 
 -- a text, the word ahead, and the place behind it
 pub record Reading : Type 0 where
@@ -33,24 +33,25 @@ IsInOrder lo hi (finished place) = (lo ≤ place) × (place ≤ hi)
 IsInOrder lo hi (open_quote place) = (lo ≤ place) × (place ≤ hi)
 IsInOrder lo hi (word_then w u) = (lo ≤ w.start) × (w.start < w.end) × IsInOrder w.end hi u
 
--- The parser gives this fault, unless memory ran out.
-abbrev pub Refuses : {A : Type 0} → Result (A × Walk) FirstFault → FirstFault → Type 0
+-- There is this fault, unless memory ran out.
+abbrev pub Refuses : {A : Type 0} → Result A DefFault → DefFault → Type 0
 Refuses parsed Memory = Unit {0}
-Refuses parsed (OpenQuote p) = parsed ≡ Err (OpenQuote p)
+Refuses parsed (Text t) = parsed ≡ Err (Text t)
 Refuses parsed (UnknownHeading p) = parsed ≡ Err (UnknownHeading p)
 Refuses parsed (Unended p) = parsed ≡ Err (Unended p)
 Refuses parsed (BadStatement p) = parsed ≡ Err (BadStatement p)
 Refuses parsed (TwiceNamed p) = parsed ≡ Err (TwiceNamed p)
 Refuses parsed (MustJoin p) = parsed ≡ Err (MustJoin p)
+Refuses parsed (Limit p) = parsed ≡ Err (Limit p)
 Refuses parsed (Missing s) = parsed ≡ Err (Missing s)
 
 -- What a reader answered, seen as a value of the grammar, and the words that it then has left, are what the parser gives.
-abbrev pub Gives : {A B : Type 0} → (B → A) → Result (A × Walk) FirstFault → Result B FirstFault → Walk → Type 0
+abbrev pub Gives : {A B : Type 0} → (B → A) → Result (A × Walk) DefFault → Result B DefFault → Walk → Type 0
 Gives view parsed (Ok x) rest = parsed ≡ Ok (view x, rest)
 Gives view parsed (Err e) rest = Refuses parsed e
 
 -- A reader's call: it keeps the text, takes at least n words where it succeeds, leaves words in order, and answers what the parser gives.
-pub record Reads {A B : Type 0} (n : ℕ) (view : List ℕ → B → A) (parser : Parser A) (old new : Reading) (result : Result B FirstFault) : Type 0 where
+pub record Reads {A B : Type 0} (n : ℕ) (view : List ℕ → B → A) (parser : Parser A) (old new : Reading) (result : Result B DefFault) : Type 0 where
   pub text : new.text ≡ old.text
   pub shorter : OnOk result (size (left new) + n ≤ size (left old))
   pub order : (lo hi : ℕ) → IsInOrder lo hi (left old) → OnOk result (IsInOrder lo hi (left new))

@@ -40,6 +40,9 @@ design_in text d = record {
 abbrev pub comps_in : List ℕ → List Comp → List said.Comp
 comps_in text cs = map (comp_in text) cs
 
+abbrev pub pins_in : List ℕ → List TopPin → List said.TopPin
+pins_in text ps = map (pin_in text) ps
+
 abbrev pub joints_in : List ℕ → List Joint → List said.Joint
 joints_in text js = map (joint_in text) js
 

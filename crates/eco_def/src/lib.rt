@@ -4,22 +4,26 @@
 mod comps;
 mod design;
 mod fault;
-mod first_fault;
 mod names;
 mod nets;
 mod orient;
 mod part;
+mod passing;
+mod pin_clause;
+mod pins;
 mod place;
 mod read;
 mod reader;
+mod room;
+mod section;
 mod sections;
+mod top_level;
 
 pub use crate::design::{Comp, Design, Joint, NetStatement, TopPin};
-pub use crate::fault::DefFault;
-pub use crate::first_fault::{FirstFault, Section};
+pub use crate::fault::{DefFault, Section};
 pub use crate::orient::Orient;
 pub use crate::place::Place;
-pub use crate::read::{first_form_reads, read_def};
+pub use crate::read::{faults_stay, limits_keep, read_def};
 
 #[cfg(test)]
 mod tests;

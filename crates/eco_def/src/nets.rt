@@ -1,17 +1,19 @@
-//! Reading NETS.
+//! Reading NETS and SPECIALNETS.
 
 ghost use Rattle.std.specs.Prelude.{◌≡◌, false, IfOk};
 ghost use Rattle.eco_text.specs.Cursor.{token};
-ghost use Rattle.eco_def.specs.Grammar.{joint_end, joint, joints, some_use, net_clause_new, net_usage, net_tail, net_name, net_new, nets};
+ghost use Rattle.eco_def.specs.Grammar.{joint_end, joint, some_use, net_clause_new, net_usage, net_tail};
+ghost use Rattle.eco_def.specs.Limits.{where_room, joints_within, net_name_within, net_new_within, nets_within};
 ghost use Rattle.eco_def.specs.Known.{knows, Adds};
 ghost use Rattle.eco_def.specs.View.{joint_in, joints_in, usage_in, net_in, nets_in};
 ghost use Rattle.eco_def.specs.Reading.{Reads, IsAhead};
-ghost use Rattle.eco_def.specs.Sections.{IsPlaced, ArePlacedBetween, AreOrdinary};
+ghost use Rattle.eco_def.specs.Sections.{IsPlaced, ArePlacedBetween, AreOfKind};
 
 use crate::design::{Joint, NetStatement};
-use crate::first_fault::FirstFault;
+use crate::fault::DefFault;
 use crate::names::Names;
 use crate::reader::Reader;
+use crate::room::Room;
 use eco_text::Word;
 use sqlite_items::Items;
 use std::alloc::Global;
@@ -20,7 +22,7 @@ use std::collections::HashMap;
 impl<'a> Reader<'a> {
     /// The `)` of a joint, behind `+ SYNTHESIZED` or not.
     #[tactic(auto, unfolding(crate::specs::Grammar::joint_end))]
-    fn joint_end(&mut self) -> Result<Word, FirstFault>
+    fn joint_end(&mut self) -> Result<Word, DefFault>
         ensures { Reads 1 token joint_end self.old self.new result }
     {
         if self.next_is(b"+") {
@@ -31,7 +33,7 @@ impl<'a> Reader<'a> {
     }
 
     #[tactic(auto, unfolding(crate::specs::Grammar::joint))]
-    fn joint(&mut self) -> Result<Joint, FirstFault>
+    fn joint(&mut self) -> Result<Joint, DefFault>
         ensures { Reads 1 joint_in joint self.old self.new result }
     {
         let start = self.word(b"(")?.start;
@@ -46,19 +48,29 @@ impl<'a> Reader<'a> {
         })
     }
 
-    fn joints(&mut self, alloc: Global) -> Result<Items<Joint>, FirstFault>
-        ensures { Reads 0 joints_in joints self.old self.new result }
+    /// A joint, where there is room for it.
+    fn next_joint(&mut self, room: bool) -> Result<Joint, DefFault>
+        ensures { Reads 1 joint_in (where_room room joint) self.old self.new result }
+    {
+        if !room {
+            return Err(self.limit());
+        }
+        self.joint()
+    }
+
+    fn joints(&mut self, alloc: Global, room: usize) -> Result<Items<Joint>, DefFault>
+        ensures { Reads 0 joints_in (joints_within room) self.old self.new result }
     {
         let mut joints = Items::new(alloc);
         'joints: while self.next_is(b"(") {
-            let joint = self.joint()?;
+            let joint = self.next_joint(joints.len() < room)?;
             joints.push(joint)?;
         }
         Ok(joints)
     }
 
     #[tactic(auto, unfolding(crate::specs::Grammar::some_use))]
-    fn some_use(&mut self) -> Result<Option<Word>, FirstFault>
+    fn some_use(&mut self) -> Result<Option<Word>, DefFault>
         ensures { Reads 1 usage_in some_use self.old self.new result }
     {
         self.take()?;
@@ -67,7 +79,7 @@ impl<'a> Reader<'a> {
 
     /// The use of a net that has none yet, or a word that is passed over.
     #[tactic(auto, unfolding(crate::specs::Grammar::net_clause_new))]
-    fn net_clause(&mut self, used: bool) -> Result<Option<Word>, FirstFault>
+    fn net_clause(&mut self, used: bool) -> Result<Option<Word>, DefFault>
         ensures { Reads 1 usage_in (net_clause_new used) self.old self.new result }
     {
         if !self.next_is(b"+") {
@@ -86,7 +98,7 @@ impl<'a> Reader<'a> {
 
     /// What stands behind a net's joints, up to the end: the first use.
     #[tactic(auto, unfolding(crate::specs::Grammar::net_tail))]
-    fn net_tail(&mut self) -> Result<Option<Word>, FirstFault>
+    fn net_tail(&mut self) -> Result<Option<Word>, DefFault>
         ensures { Reads 0 usage_in net_tail self.old self.new result }
     {
         if !self.next_is_one_of(&[b"+", b";"]) {
@@ -95,7 +107,7 @@ impl<'a> Reader<'a> {
         self.usage()
     }
 
-    fn usage(&mut self) -> Result<Option<Word>, FirstFault>
+    fn usage(&mut self) -> Result<Option<Word>, DefFault>
         ensures { Reads 0 usage_in net_usage self.old self.new result }
     {
         let mut usage: Option<Word> = None;
@@ -106,32 +118,38 @@ impl<'a> Reader<'a> {
         Ok(usage)
     }
 
-    fn net_name(&mut self, names: &mut Names<'a>) -> Result<Word, FirstFault>
-        ensures reads { Reads 1 token (net_name (knows names.old)) self.old self.new result }
+    fn net_name(&mut self, names: &mut Names<'a>, room: bool) -> Result<Word, DefFault>
+        ensures reads { Reads 1 token (net_name_within room (knows names.old)) self.old self.new result }
         ensures names { IfOk result (λ w. Adds names.old names.new (token self.old.text w).bytes) }
         ensures ahead { IfOk result (λ w. IsAhead self.old self.new w) }
     {
         if self.next_is(b"MUSTJOIN") {
             return Err(self.must_join());
         }
-        self.new_name(names)
+        self.new_name(names, room)
     }
 
-    #[tactic(auto, unfolding(crate::specs::Grammar::net_new))]
-    fn net(&mut self, alloc: Global, names: &mut Names<'a>) -> Result<NetStatement, FirstFault>
-        ensures reads { Reads 1 net_in (net_new (knows names.old)) self.old self.new result }
+    #[tactic(auto, unfolding(crate::specs::Limits::net_new_within))]
+    fn net(
+        &mut self,
+        alloc: Global,
+        special: bool,
+        names: &mut Names<'a>,
+        room: Room,
+    ) -> Result<NetStatement, DefFault>
+        ensures reads { Reads 1 net_in (net_new_within room (knows names.old)) self.old self.new result }
         ensures names { IfOk result (λ s. Adds names.old names.new (token self.old.text s.name).bytes) }
         ensures placed { IfOk result (λ s. IsPlaced self.old self.new s) }
-        ensures ordinary { IfOk result (λ s. s.special ≡ false) }
+        ensures kind { IfOk result (λ s. s.special ≡ special) }
     {
         let start = self.word(b"-")?.start;
-        let name = self.net_name(names)?;
-        let joints = self.joints(alloc)?;
+        let name = self.net_name(names, 0 < room.nets)?;
+        let joints = self.joints(alloc, room.joints)?;
         let usage = self.net_tail()?;
         let end = self.word(b";")?.end;
         Ok(NetStatement {
             name,
-            special: false,
+            special,
             start,
             end,
             usage,
@@ -139,15 +157,23 @@ impl<'a> Reader<'a> {
         })
     }
 
-    pub fn nets(&mut self, alloc: Global) -> Result<Items<NetStatement>, FirstFault>
-        ensures reads { Reads 0 nets_in nets self.old self.new result }
+    /// The statements of one section, for which there is so much room.
+    pub fn nets(
+        &mut self,
+        alloc: Global,
+        special: bool,
+        room: Room,
+    ) -> Result<Items<NetStatement>, DefFault>
+        ensures reads { Reads 0 nets_in (nets_within room) self.old self.new result }
         ensures placed { IfOk result (λ ss. ArePlacedBetween self.old self.new ss) }
-        ensures ordinary { IfOk result (λ ss. AreOrdinary ss) }
+        ensures kind { IfOk result (λ ss. AreOfKind special ss) }
     {
         let mut names = HashMap::new(alloc);
         let mut nets = Items::new(alloc);
+        let mut room_left = room;
         'statements: while self.next_is(b"-") {
-            let net = self.net(alloc, &mut names)?;
+            let net = self.net(alloc, special, &mut names, room_left)?;
+            room_left = room_left.behind(&net);
             nets.push(net)?;
         }
         Ok(nets)

@@ -1,6 +1,7 @@
 //! What stands at the top level of a design.
 
-use crate::design::{Comp, NetStatement};
+use crate::design::{Comp, NetStatement, TopPin};
+use crate::room::Room;
 use eco_text::Word;
 use sqlite_items::Items;
 
@@ -18,6 +19,8 @@ pub enum Part {
     Passed,
     Units(u32),
     Comps(Items<Comp>),
+    Pins(Items<TopPin>),
+    Special(Items<NetStatement>),
     Nets(NetSection),
 }
 
@@ -26,5 +29,11 @@ pub enum Part {
 pub struct Sections {
     pub units: Option<u32>,
     pub comps: Option<Items<Comp>>,
+    pub pins: Option<Items<TopPin>>,
+    pub special: Option<Items<NetStatement>>,
     pub nets: Option<NetSection>,
+    /// Whether SPECIALNETS stands before NETS, where both stand.
+    pub special_first: bool,
+    /// What SPECIALNETS and NETS have left.
+    pub room: Room,
 }

@@ -7,11 +7,11 @@ ghost use Rattle.eco_text.specs.Words.{Token, walk_of};
 ghost use Rattle.eco_text.specs.Cursor.{token};
 ghost use Rattle.eco_text.specs.Numbers.{integer_of};
 ghost use Rattle.eco_def.specs.Parsing.{begins, any, refuse, is_word, word as word_at, name as name_at, is_name, is_mark as mark, is_name_byte, bytes_ahead, valued, pass_to};
-ghost use Rattle.eco_def.specs.declared.first_fault.FirstFault.TheVariants.{BadStatement, TwiceNamed, MustJoin, UnknownHeading, Memory};
+ghost use Rattle.eco_def.specs.declared.fault.DefFault.TheVariants.{BadStatement, TwiceNamed, MustJoin, UnknownHeading, Limit, Memory};
 ghost use Rattle.eco_def.specs.Known.{knows, Adds};
 ghost use Rattle.eco_def.specs.Reading.{Reads, left, LiesIn, IsAhead, as_is};
 
-use crate::first_fault::FirstFault;
+use crate::fault::DefFault;
 use crate::names::{Names, add_name};
 use eco_text::{TextFault, Word, Words, read_i32};
 use std::marker::Model;
@@ -114,7 +114,7 @@ impl<'a> Reader<'a> {
     }
 
     /// The bytes of the next word, and none where there is none.
-    pub fn bytes_ahead(&self) -> &[u8]
+    pub fn bytes_ahead(&self) -> &'a [u8]
         ensures { result.now ≡ bytes_ahead (left self.now) }
     {
         match self.ahead {
@@ -124,16 +124,12 @@ impl<'a> Reader<'a> {
     }
 
     /// Adds the bytes of the next word to the names, and says whether they are new.
-    pub fn add_ahead(&self, names: &mut Names<'a>) -> Result<bool, FirstFault>
+    pub fn add_ahead(&self, names: &mut Names<'a>) -> Result<bool, DefFault>
         ensures added { IfOk result (λ b. b ≡ not (knows names.old (bytes_ahead (left self.now)))) }
         ensures names { OnOk result (Adds names.old names.new (bytes_ahead (left self.now))) }
         ensures memory { IfErr result (λ e. e ≡ Memory) }
     {
-        let bytes: &'a [u8] = match self.ahead {
-            Ok(Some(word)) => &self.text[word.start as usize..word.end as usize],
-            _ => &[],
-        };
-        Ok(add_name(names, bytes)?)
+        Ok(add_name(names, self.bytes_ahead())?)
     }
 
     pub fn next_is_name(&self) -> bool
@@ -146,60 +142,70 @@ impl<'a> Reader<'a> {
     }
 
     /// The fault of a word that can't stand here.
-    pub fn bad_statement(&self) -> FirstFault
+    pub fn bad_statement(&self) -> DefFault
         ensures { refuse {A = Token} BadStatement (left self.now) ≡ Err result }
     {
         match self.ahead {
-            Ok(Some(word)) => FirstFault::BadStatement { place: word.start },
-            Ok(None) => FirstFault::Unended {
+            Ok(Some(word)) => DefFault::BadStatement { place: word.start },
+            Ok(None) => DefFault::Unended {
                 place: self.text.len() as u32,
             },
-            Err(TextFault::OpenQuote { place }) => FirstFault::OpenQuote { place },
+            Err(TextFault::OpenQuote { place }) => DefFault::Text(TextFault::OpenQuote { place }),
         }
     }
 
     /// The fault of a name that stands a second time, where there is a next word.
-    pub fn twice_named(&self) -> FirstFault
+    pub fn twice_named(&self) -> DefFault
         ensures { refuse {A = Token} TwiceNamed (left self.now) ≡ Err result }
     {
         match self.ahead {
-            Ok(Some(word)) => FirstFault::TwiceNamed { place: word.start },
+            Ok(Some(word)) => DefFault::TwiceNamed { place: word.start },
             _ => self.bad_statement(),
         }
     }
 
     /// The fault of a word that begins nothing at the top level.
-    pub fn unknown_heading(&self) -> FirstFault
+    pub fn unknown_heading(&self) -> DefFault
         ensures { refuse {A = Token} UnknownHeading (left self.now) ≡ Err result }
     {
         match self.ahead {
-            Ok(Some(word)) => FirstFault::UnknownHeading { place: word.start },
+            Ok(Some(word)) => DefFault::UnknownHeading { place: word.start },
             _ => self.bad_statement(),
         }
     }
 
     /// That fault, at a place before the next word.
-    pub fn unknown_heading_at(&self, place: u32) -> FirstFault
+    pub fn unknown_heading_at(&self, place: u32) -> DefFault
         ensures { refuse {A = Token} (λ _. UnknownHeading place) (left self.now) ≡ Err result }
     {
         match self.ahead {
-            Ok(Some(_)) => FirstFault::UnknownHeading { place },
+            Ok(Some(_)) => DefFault::UnknownHeading { place },
             _ => self.bad_statement(),
         }
     }
 
     /// The fault of a `MUSTJOIN`, where there is a next word.
-    pub fn must_join(&self) -> FirstFault
+    pub fn must_join(&self) -> DefFault
         ensures { refuse {A = Token} MustJoin (left self.now) ≡ Err result }
     {
         match self.ahead {
-            Ok(Some(word)) => FirstFault::MustJoin { place: word.start },
+            Ok(Some(word)) => DefFault::MustJoin { place: word.start },
+            _ => self.bad_statement(),
+        }
+    }
+
+    /// The fault of a word for which there is no room, where there is a next word.
+    pub fn limit(&self) -> DefFault
+        ensures { refuse {A = Token} Limit (left self.now) ≡ Err result }
+    {
+        match self.ahead {
+            Ok(Some(word)) => DefFault::Limit { place: word.start },
             _ => self.bad_statement(),
         }
     }
 
     /// The next word, whatever it is.
-    pub fn take(&mut self) -> Result<Word, FirstFault>
+    pub fn take(&mut self) -> Result<Word, DefFault>
         ensures reads { Reads 1 token any self.old self.new result }
         ensures lies { IfOk result (LiesIn self.old.text) }
         ensures ahead { IfOk result (λ w. IsAhead self.old self.new w) }
@@ -209,15 +215,17 @@ impl<'a> Reader<'a> {
                 self.ahead = self.words.next_word();
                 Ok(word)
             }
-            Ok(None) => Err(FirstFault::Unended {
+            Ok(None) => Err(DefFault::Unended {
                 place: self.text.len() as u32,
             }),
-            Err(TextFault::OpenQuote { place }) => Err(FirstFault::OpenQuote { place }),
+            Err(TextFault::OpenQuote { place }) => {
+                Err(DefFault::Text(TextFault::OpenQuote { place }))
+            }
         }
     }
 
     /// The next word, which is to be this one.
-    pub fn word(&mut self, keyword: &[u8]) -> Result<Word, FirstFault>
+    pub fn word(&mut self, keyword: &[u8]) -> Result<Word, DefFault>
         ensures reads { Reads 1 token (word_at keyword.now) self.old self.new result }
         ensures ahead { IfOk result (λ w. IsAhead self.old self.new w) }
     {
@@ -228,7 +236,7 @@ impl<'a> Reader<'a> {
     }
 
     /// A coordinate in database units.
-    pub fn integer(&mut self) -> Result<i32, FirstFault>
+    pub fn integer(&mut self) -> Result<i32, DefFault>
         ensures { Reads 1 as_is (valued integer_of) self.old self.new result }
     {
         match read_i32(self.bytes_ahead()) {
@@ -241,7 +249,7 @@ impl<'a> Reader<'a> {
     }
 
     /// The next word, which is to be a name.
-    pub fn name(&mut self) -> Result<Word, FirstFault>
+    pub fn name(&mut self) -> Result<Word, DefFault>
         ensures reads { Reads 1 token name_at self.old self.new result }
         ensures ahead { IfOk result (λ w. IsAhead self.old self.new w) }
     {

@@ -1,8 +1,80 @@
-use crate::{DefFault, Orient, read_def};
+use crate::{Design, Orient, read_def};
+use eco_text::Dir;
+use std::alloc::Global;
+use std::process::Abort;
 use std::test::Fail;
 
-const HEAD: &str =
-    "UNITS DISTANCE MICRONS 1000 ; COMPONENTS 1 ; - u1 INV + PLACED ( -5 7 ) FN ; END COMPONENTS ";
+const SMALL: &str = "VERSION 5.8 ;
+DIVIDERCHAR \"/\" ;
+BUSBITCHARS \"[]\" ;
+DESIGN top ;
+UNITS DISTANCE MICRONS 1000 ;
+DIEAREA ( 0 0 ) ( 20000 20000 ) ;
+COMPONENTS 7 ;
+- u1 NAND2 + PLACED ( 1000 1000 ) N ;
+- u2 INV + PLACED ( 3000 1000 ) N ;
+- r1 DFF + PLACED ( 5000 1000 ) N ;
+- SP_1 NAND2 + FIXED ( 2000 2000 ) N ;
+- SP_2 NAND2 + FIXED ( 8000 2000 ) N ;
+- SP_3 AOI21 + FIXED ( 6000 2000 ) N ;
+- SP_4 NAND2 + UNPLACED ;
+END COMPONENTS
+PINS 4 ;
+- a + NET a + DIRECTION INPUT + USE SIGNAL ;
+- b + NET b + DIRECTION INPUT + USE SIGNAL ;
+- ck + NET ck + DIRECTION INPUT + USE CLOCK ;
+- q + NET q + DIRECTION OUTPUT + USE SIGNAL ;
+END PINS
+SPECIALNETS 2 ;
+- VDD ( * VDD ) + USE POWER ;
+- VSS ( * VSS ) ( SP_1 A ) ( SP_1 B ) ( SP_2 A ) ( SP_2 B ) ( SP_3 A ) ( SP_3 B ) ( SP_3 C ) + USE GROUND ;
+END SPECIALNETS
+NETS 6 ;
+- a ( PIN a ) ( u1 A ) ;
+- b ( PIN b ) ( u1 B ) ;
+- ck ( PIN ck ) ( r1 CK ) ;
+- n1 ( u1 Y ) ( u2 A ) + ROUTED M1 ( 1000 1000 ) ( 3000 * ) ;
+- n2 ( u2 Y ) ( r1 D ) ;
+- q ( r1 Q ) ( PIN q ) ;
+END NETS
+END DESIGN
+";
+
+const HEAD_LINES: &str = "DIEAREA ( 0 0 ) ( 20000 20000 ) ;
+# written by hand
+ROW r0 core 0 0 N DO 100 BY 1 STEP 200 0 ;
+TRACKS X 100 DO 100 STEP 200 LAYER M1 ;
+VIAS 1 ;
+- v1 + RECT M1 ( -50 -50 ) ( 50 50 ) + RECT M2 ( -50 -50 ) ( 50 50 ) ;
+END VIAS
+BEGINEXT \"note\"
+  any words
+ENDEXT
+";
+
+const CUT: &str = "UNITS DISTANCE MICRONS 1000 ; COMPONENTS 0 ; END COMPONENTS NETS 1 ; - a ( PIN";
+
+/// How many components, top pins, net statements and joints a design has.
+fn counted(alloc: Global, design: &Design) -> Result<String, Fail> {
+    let mut joints: usize = 0;
+    for net in design.nets.as_slice() {
+        joints = joints.saturating_add(net.joints.len());
+    }
+    let comps = design.comps.len();
+    let pins = design.pins.len();
+    let nets = design.nets.len();
+    Ok(format!(in alloc; "{comps} {pins} {nets} {joints}")?)
+}
+
+/// The counts of a text's design, or its fault as it is printed.
+fn told(rt: &impl Abort, alloc: Global, text: &str) -> Result<String, Fail> {
+    let bytes = text.as_bytes();
+    assert!(rt; bytes.len() <= 100_000_000);
+    match read_def(alloc, bytes) {
+        Ok(design) => counted(alloc, &design),
+        Err(fault) => Ok(format!(in alloc; "{fault}")?),
+    }
+}
 
 #[test]
 fn the_parts_of_a_design(rt: HostRuntime) -> Result<(), Fail> {
@@ -13,8 +85,6 @@ fn the_parts_of_a_design(rt: HostRuntime) -> Result<(), Fail> {
     assert!(rt; text.len() <= 1000);
     let design = read_def(rt.alloc(), text.as_bytes())?;
     assert_eq!(rt; design.units, 2000);
-    assert_eq!(rt; design.comps.len(), 2);
-    assert_eq!(rt; design.nets.len(), 2);
     let comps = design.comps.as_slice();
     assert_eq!(rt; comps.len(), 2);
     let place = comps[0].place.ok_or("placed")?;
@@ -39,41 +109,221 @@ fn the_parts_of_a_design(rt: HostRuntime) -> Result<(), Fail> {
 }
 
 #[test]
-fn texts_of_the_first_form_and_others(rt: HostRuntime) -> Result<(), Fail> {
-    let rests = [
-        ("NETS 0 ; END NETS END DESIGN", true),
-        ("NETS 0 ; END NETS END DESIGN \"", true),
-        ("NETS 1 ; - a ( u1 A ) ; END NETS END DESIGN", true),
-        (
-            "DIEAREA ( 0 0 ) ( 1 1 ) ; NETS 0 ; END NETS END DESIGN",
-            true,
-        ),
-        ("NETS 0 ; END NETS END DESIG", false),
-        ("NETS 0 ; END NETS", false),
-        ("NETS 1 ; - a ; - a ; END NETS END DESIGN", false),
-        ("NETS 1 ; - MUSTJOIN ; END NETS END DESIGN", false),
-        ("NETS 1 ; - a ( u1 A ; END NETS END DESIGN", false),
-        ("NETS 1 ; - a ( u1 A ) x ; END NETS END DESIGN", false),
-        ("NETS 0 ; END NETS NETS 0 ; END NETS END DESIGN", false),
-        ("PINS 0 ; END PINS NETS 0 ; END NETS END DESIGN", false),
-        (
-            "UNITS DISTANCE MICRONS 0 ; NETS 0 ; END NETS END DESIGN",
-            false,
-        ),
-        (
-            "UNITS DISTANCE MICRONS 1000001 ; NETS 0 ; END NETS END DESIGN",
-            false,
-        ),
-        ("END DESIGN", false),
-        ("NETS 1 ; - a ( u1 \"A\" ) ; END NETS END DESIGN", false),
-    ];
-    for (rest, wanted) in rests {
-        let text = format!(in rt.alloc(); "{HEAD}{rest}")?;
-        assert!(rt; text.len() <= 1000);
-        match read_def(rt.alloc(), text.as_bytes()) {
-            Ok(_) => assert!(rt; wanted, "{rest} is read"),
-            Err(fault) => assert!(rt; !wanted && fault == DefFault::NotYet, "{rest} is refused"),
-        }
+fn the_pins_of_a_design(rt: HostRuntime) -> Result<(), Fail> {
+    let text =
+        "UNITS DISTANCE MICRONS 1 ; COMPONENTS 0 ; END COMPONENTS NETS 0 ; END NETS PINS 3 ;\n\
+        - i + NET n + NET m + SPECIAL + DIRECTION FEEDTHRU + DIRECTION INPUT + USE CLOCK + USE POWER + LAYER M1 ( 0 0 ) ( 1 1 ) ;\n\
+        - v + DIRECTION OUTPUT x y + NET VDD + USE POWER ;\n- o + NET o + USE ; END PINS END DESIGN";
+    assert!(rt; text.len() <= 1000);
+    let design = read_def(rt.alloc(), text.as_bytes())?;
+    let pins = design.pins.as_slice();
+    assert_eq!(rt; pins.len(), 3);
+    assert_eq!(rt;
+        [pins[0].dir, pins[1].dir, pins[2].dir],
+        [Dir::Inout, Dir::Output, Dir::Inout]
+    );
+    assert_eq!(rt;
+        [pins[0].supply, pins[1].supply, pins[2].supply],
+        [false, true, false]
+    );
+    assert_eq!(rt;
+        text.get(pins[0].net.start as usize..pins[0].net.end as usize),
+        Some("n")
+    );
+    Ok(())
+}
+
+#[test]
+fn statements_of_both_sections_in_the_order_of_the_text(rt: HostRuntime) -> Result<(), Fail> {
+    let first =
+        "UNITS DISTANCE MICRONS 1 ; COMPONENTS 0 ; END COMPONENTS SPECIALNETS 1 ; - s ; END SPECIALNETS NETS 2 ; - a ; - s ; END NETS END DESIGN";
+    assert!(rt; first.len() <= 1000);
+    let design = read_def(rt.alloc(), first.as_bytes())?;
+    let nets = design.nets.as_slice();
+    assert_eq!(rt; nets.len(), 3);
+    assert_eq!(rt;
+        [nets[0].special, nets[1].special, nets[2].special],
+        [true, false, false]
+    );
+    let second =
+        "UNITS DISTANCE MICRONS 1 ; COMPONENTS 0 ; END COMPONENTS NETS 2 ; - a ; - s ; END NETS SPECIALNETS 1 ; - s ; END SPECIALNETS END DESIGN";
+    assert!(rt; second.len() <= 1000);
+    let design = read_def(rt.alloc(), second.as_bytes())?;
+    let nets = design.nets.as_slice();
+    assert_eq!(rt; nets.len(), 3);
+    assert_eq!(rt;
+        [nets[0].special, nets[1].special, nets[2].special],
+        [false, false, true]
+    );
+    Ok(())
+}
+
+#[test]
+fn the_small_base_and_its_realistic_head(rt: HostRuntime) -> Result<(), Fail> {
+    let alloc = rt.alloc();
+    assert_eq!(rt; told(&rt, alloc, SMALL)?.as_str(), "7 4 8 21");
+    let second = SMALL
+        .replace(alloc, "DIEAREA ( 0 0 ) ( 20000 20000 ) ;\n", HEAD_LINES)?
+        .replace(
+            alloc,
+            "- u1 NAND2 + PLACED ( 1000 1000 ) N ;",
+            "- u1 NAND2 + PLACED ( 1000 1000 ) N + PROPERTY note \"a ; b\" ;",
+        )?;
+    assert!(rt; second.len() > SMALL.len() + 200);
+    assert_eq!(rt; told(&rt, alloc, &second)?.as_str(), "7 4 8 21");
+    Ok(())
+}
+
+#[test]
+fn each_cut_of_a_design_is_a_fault(rt: HostRuntime) -> Result<(), Fail> {
+    let alloc = rt.alloc();
+    let last = SMALL.len() - 1;
+    for end in 0..last {
+        let cut = SMALL.get(..end).ok_or("cut")?;
+        let bytes = cut.as_bytes();
+        assert!(rt; bytes.len() <= 10_000);
+        assert!(rt;
+            read_def(alloc, bytes).is_err(),
+            "the first {end} bytes are read"
+        );
     }
+    let whole = SMALL.get(..last).ok_or("whole")?;
+    assert_eq!(rt; told(&rt, alloc, whole)?.as_str(), "7 4 8 21");
+    Ok(())
+}
+
+#[test]
+fn first_faults_with_their_places(rt: HostRuntime) -> Result<(), Fail> {
+    let alloc = rt.alloc();
+    let table = [
+        ("VERSION \"", "Text OpenQuote place=8"),
+        ("EXTRA 1 ;", "UnknownHeading place=0"),
+        ("END x", "UnknownHeading place=0"),
+        ("END ", "Unended place=4"),
+        ("END DESIGN", "Missing which=UNITS"),
+        ("NETS 0 ; END NETS END DESIGN", "Missing which=UNITS"),
+        (
+            "UNITS DISTANCE MICRONS 1 ; NETS 0 ; END NETS END DESIGN",
+            "Missing which=COMPONENTS",
+        ),
+        (
+            "UNITS DISTANCE MICRONS 1 ; COMPONENTS 0 ; END COMPONENTS END DESIGN",
+            "Missing which=NETS",
+        ),
+        ("UNITS DISTANCE MICRONS 0 ; \"x", "BadStatement place=23"),
+        ("UNITS DISTANCE MICRONS 01 ;", "BadStatement place=23"),
+        ("UNITS DISTANCE MICRONS 1000001 ;", "BadStatement place=23"),
+        ("COMPONENTS 2 ; - u INV ; - u", "TwiceNamed place=27"),
+        (
+            "COMPONENTS 1 ; - u INV + PLACED ( 1 2147483648 ) N ;",
+            "BadStatement place=36",
+        ),
+        ("PINS 2 ; - a x", "BadStatement place=13"),
+        ("PINS 1 ; - a + DIRECTION INPUT ;", "BadStatement place=31"),
+        ("PINS 1 ; - a + DIRECTION UP ;", "BadStatement place=25"),
+        ("PINS 2 ; - a + NET a ; - a", "TwiceNamed place=25"),
+        ("PINS 0 ; END PINS PINS", "TwiceNamed place=18"),
+        ("SPECIALNETS 1 ; - \"a\" ;", "BadStatement place=18"),
+        (
+            "SPECIALNETS 0 ; END SPECIALNETS SPECIALNETS",
+            "TwiceNamed place=32",
+        ),
+        ("NETS 1 ; - MUSTJOIN ( u1 A ) ;", "MustJoin place=11"),
+        ("NETS 1 ; - a ; - a ( ; ", "TwiceNamed place=17"),
+        ("NETS 1 ; END NETS NETS", "TwiceNamed place=18"),
+        ("NETS 1 ; - a ( u A ) x", "BadStatement place=21"),
+        ("NETS 1 ; - a ( u A + X )", "BadStatement place=21"),
+        ("VIAS 1 ; - v END", "Unended place=16"),
+        (
+            "VIAS 1 ; END STYLES END VIAS END DESIGN",
+            "Missing which=UNITS",
+        ),
+        ("BEGINEXT END DESIGN", "Unended place=19"),
+        ("TRACKS X 1 END DESIGN", "Unended place=21"),
+    ];
+    for (text, wanted) in table {
+        assert_eq!(rt; told(&rt, alloc, text)?.as_str(), wanted, "{text}");
+    }
+    Ok(())
+}
+
+#[test]
+fn a_text_that_ends_within_a_joint(rt: HostRuntime) -> Result<(), Fail> {
+    let alloc = rt.alloc();
+    let table = [
+        ("", "Unended place=78"),
+        (" \"x", "Text OpenQuote place=79"),
+        (" # x", "Unended place=82"),
+    ];
+    for (rest, wanted) in table {
+        let text = format!(in alloc; "{CUT}{rest}")?;
+        assert_eq!(rt; told(&rt, alloc, &text)?.as_str(), wanted);
+    }
+    Ok(())
+}
+
+#[test]
+fn texts_as_tools_write_them(rt: HostRuntime) -> Result<(), Fail> {
+    let alloc = rt.alloc();
+    let table = [
+        "NETS 1 ;\n- a\n  ( PIN a )\n  ( u1 A )\n  + USE SIGNAL\n;\nEND NETS",
+        "NETS 1 ; \r\n- a ( PIN a ) ( u1 A )  \r\n\r\n ;\t\r\nEND NETS\r\n",
+        "TRACKS X -480.0 DO 100 STEP 200 LAYER M1 ;\nBUSBITCHARS \"<>\" ;\nNETS 1 ; - c[3] ( PIN c[3] ) ( u1/x A ) ; END NETS",
+        "NETS 99 ; - a$b<1>\\[2\\] ( PIN a + SYNTHESIZED ) ( * A ) ; END NETS",
+        "GCELLGRID X 0 DO 1 STEP 1 ;\nTECHNOLOGY t ;\nHISTORY any words ;\nNAMESCASESENSITIVE ON ;\nCOMPONENTMASKSHIFT M1 ;\nNETS ; ; - a ( PIN a ) ( u A ) ; END NETS",
+        "PROPERTYDEFINITIONS NET p STRING ; END PROPERTYDEFINITIONS\nSTYLES 0 ; END STYLES\nNONDEFAULTRULES 0 ; END NONDEFAULTRULES\nREGIONS 0 ; END REGIONS\nPINPROPERTIES 0 ; END PINPROPERTIES\nBLOCKAGES 0 ; END BLOCKAGES\nSLOTS 0 ; END SLOTS\nFILLS 0 ; END FILLS\nSCANCHAINS 0 ; END SCANCHAINS\nGROUPS 0 ; END GROUPS\nNETS 1 ; - a ( PIN a ) ( u A ) ; END NETS",
+        "BEGINEXT \"x\" NETS 1 ; - a ENDEXT NETS 1 ; - a ( PIN a ) ( u A ) + ROUTED M1 ( 0 0 ) ( * 5 ) VIA_1 + PROPERTY p \"; END NETS\" ; END NETS",
+    ];
+    for nets in table {
+        let text = format!(in alloc;
+            "DESIGN d ;\nUNITS DISTANCE MICRONS 1 ;\n{nets}\nCOMPONENTS 3 ; END COMPONENTS\nEND DESIGN\n"
+        )?;
+        assert_eq!(rt; told(&rt, alloc, &text)?.as_str(), "0 0 1 2", "{nets}");
+    }
+    Ok(())
+}
+
+/// A text whose COMPONENTS has statements of these names.
+fn with_components(alloc: Global, count: u32) -> Result<String, Fail> {
+    let mut text = String::new(alloc);
+    text.push_str("COMPONENTS 0 ;")?;
+    for number in 0..count {
+        let line = format!(in alloc; " - {number} M ;")?;
+        text.push_str(&line)?;
+    }
+    Ok(text)
+}
+
+#[test]
+fn a_million_components_and_one(rt: HostRuntime) -> Result<(), Fail> {
+    let alloc = rt.alloc();
+    let text = with_components(alloc, 1_000_000)?;
+    let whole = format!(in alloc;
+        "UNITS DISTANCE MICRONS 1 ; {text} END COMPONENTS NETS 0 ; END NETS END DESIGN"
+    )?;
+    assert_eq!(rt; told(&rt, alloc, &whole)?.as_str(), "1000000 0 0 0");
+    let place = text.len().saturating_add(3);
+    let more = format!(in alloc; "{text} - x M ;")?;
+    let wanted = format!(in alloc; "Limit place={place}")?;
+    assert_eq!(rt; told(&rt, alloc, &more)?, wanted);
+    let again = format!(in alloc; "{text} - 7 M ;")?;
+    let twice = format!(in alloc; "TwiceNamed place={place}")?;
+    assert_eq!(rt; told(&rt, alloc, &again)?, twice);
+    Ok(())
+}
+
+#[test]
+fn four_million_joints_and_one(rt: HostRuntime) -> Result<(), Fail> {
+    let alloc = rt.alloc();
+    let joints = "( u A ) ".repeat(alloc, 2_000_000)?;
+    let text = format!(in alloc;
+        "SPECIALNETS 1 ; - s {joints}; END SPECIALNETS NETS 2 ; - a {joints}; - b "
+    )?;
+    let place = text.len();
+    let more = format!(in alloc; "{text}( u")?;
+    let wanted = format!(in alloc; "Limit place={place}")?;
+    assert_eq!(rt; told(&rt, alloc, &more)?, wanted);
+    let cut = format!(in alloc; "Unended place={place}")?;
+    assert_eq!(rt; told(&rt, alloc, &text)?, cut);
     Ok(())
 }

@@ -3,7 +3,7 @@ use Rattle.std.proofs.Common.{◌≡◌, ℕ, zero, suc, Bool, true, false, not,
 use Rattle.std.specs.Str.{bytes_eq}
 use Rattle.eco_text.specs.Words.{Token, Walk, finished, open_quote, word_then, walk_of}
 use Rattle.eco_def.specs.Design.{Comp, TopPin, Part, Passed, Units, Comps, Pins, Special, Nets, NetSection, Design}
-use Rattle.eco_def.specs.declared.first_fault.FirstFault.TheVariants.{BadStatement, TwiceNamed, UnknownHeading}
+use Rattle.eco_def.specs.declared.fault.DefFault.TheVariants.{BadStatement, TwiceNamed, UnknownHeading}
 use Rattle.eco_def.specs.Parsing.{Parser, ◌>>=◌, then_read, give, refuse, begins, any, choose, word, name, is_word, is_name, is_among, new_name, valued, pass_to, pass_to_both, size, many_for, many, many_until, first_some}
 use Rattle.eco_def.specs.Grammar.{CompKind, Kind, NetKind, PinClause, PinKind, SpecialKind, comp, comp_new, comp_place, comp_section, comps, comps_of, design_from, design_of, design_read, dir_in, end_design, have, is_one_of, last_some, net_in, net_section, nets, nets_of, once, or_none, part, part_new, parts, parts_design, passed_section, passed_sections, passed_statements, pin_clauses, pin_on, pin_section, pins_of, section_end, section_head, special_section, supply_in, top_pin, top_pin_new, units, units_number, units_of}
 use Rattle.eco_def.specs.Named.{comp_names, pin_names}

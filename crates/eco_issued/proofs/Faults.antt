@@ -1,10 +1,10 @@
 -- The faults of a reading.
 use Rattle.std.specs.Prelude.{ℕ}
-use Rattle.eco_def.specs.declared.first_fault.FirstFault.{FirstFault}
-use Rattle.eco_def.specs.declared.first_fault.FirstFault.TheVariants.{BadStatement, TwiceNamed, MustJoin, UnknownHeading}
+use Rattle.eco_def.specs.declared.fault.DefFault.{DefFault}
+use Rattle.eco_def.specs.declared.fault.DefFault.TheVariants.{BadStatement, TwiceNamed, MustJoin, UnknownHeading}
 
 abbrev pub Fault : Type 0
-Fault = FirstFault
+Fault = DefFault
 
 abbrev pub bad_statement : ℕ → Fault
 bad_statement = BadStatement

@@ -27,11 +27,14 @@ returns-in_err-design-clause-ends g c =
     rw (p.1, p.2) (ends_planning h left taken c.args.host.now c.read_text.new.host m bytes c.in_ok-text.text c.in_err-design.field-0.0 c.in_ok-text.ensures.reading c.in_ok-text.ensures.sinks
     (subst (λ t. Planning t m (Err c.in_err-design.field-0.0)) c.deref.ensures.value planned))
 
+pub write_text-requires-clause-reading : goal.write_text-requires-clause-reading
+write_text-requires-clause-reading g c = rw (c.deref-2.ensures.value, ← c.deref.ensures.value) c.in_ok-design.ensures.0
+
 pub write_text-requires-clause-made : goal.write_text-requires-clause-made
 write_text-requires-clause-made g c = (
   one_joint (move_of c.args.asked.now),
   [],
-  rw (c.deref-2.ensures.value, ← c.deref.ensures.value) c.in_ok-design.ensures.3,
+  rw (c.deref-2.ensures.value, ← c.deref.ensures.value) c.in_ok-design.ensures.2,
 )
 
 pub returns-clause-ends : goal.returns-clause-ends

@@ -1,15 +1,14 @@
-use Rattle.std.proofs.Common.{sym, ◌∙◌}
-use Rattle.eco_def.proofs.Designs.{within_form, within_reading, beyond}
+use Rattle.std.proofs.lemmas.Result.{err_from_is_err_and}
+use Rattle.eco_def.specs.Reading.{left}
+use Rattle.eco_def.proofs.WholeText.{failed_answer, answer}
 use Rattle.eco_def.proofs.read.read_def.Goals as goal
 
-pub returns-then-not-is_within_limits-clause-not_yet : goal.returns-then-not-is_within_limits-clause-not_yet
-returns-then-not-is_within_limits-clause-not_yet c refused =
-    beyond c.args.text.now c.in-Ok.design c.in-Ok.ensures.design (sym c.is_within_limits.ensures ∙ c.if-not-is_within_limits.true)
+pub returns-in_err-sections : goal.returns-in_err-sections
+returns-in_err-sections c =
+    let p = err_from_is_err_and c.from_residual.result c.from_residual.ensures.1 in
+    rw (p.1, p.2) (failed_answer c.args.text.now (left c.new-reader.result) c.in_err-sections.field-0.0 c.new-reader.ensures.left c.in_err-sections.ensures.value)
 
-pub returns-else-not-is_within_limits-clause-reading : goal.returns-else-not-is_within_limits-clause-reading
-returns-else-not-is_within_limits-clause-reading c =
-    within_reading c.args.text.now c.in-Ok.design c.requires c.in-Ok.ensures.design (sym c.is_within_limits.ensures ∙ c.if-not-is_within_limits.false)
-
-pub returns-else-not-is_within_limits-clause-form : goal.returns-else-not-is_within_limits-clause-form
-returns-else-not-is_within_limits-clause-form c =
-    within_form c.args.text.now c.in-Ok.design c.in-Ok.ensures.design (sym c.is_within_limits.ensures ∙ c.if-not-is_within_limits.false)
+pub returns : goal.returns
+returns c =
+    let v = c.in_ok-sections.ensures.value in
+    answer c.args.text.now c.new-reader.result c.design.new.self c.in_ok-sections.sections v.0 c.into_design.result c.requires c.new-reader.ensures.text c.new-reader.ensures.left v.1 v.2 c.in_ok-sections.ensures.lie c.into_design.ensures.design c.into_design.ensures.missing

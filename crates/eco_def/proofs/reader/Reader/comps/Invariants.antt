@@ -1,6 +1,6 @@
 use Rattle.std.proofs.Common.{◌≡◌, ℕ, List, map, codes}
 use Rattle.eco_def.specs.Parsing.{is_word, is_among, size}
-use Rattle.eco_def.specs.Grammar.{comp}
+use Rattle.eco_def.specs.Limits.{comp_within}
 use Rattle.eco_def.specs.Known.{knows}
 use Rattle.eco_def.specs.View.{comp_in}
 use Rattle.eco_def.specs.Reading.{left}
@@ -11,7 +11,7 @@ use Rattle.eco_def.proofs.reader.Reader.comps.Given as goal
 abbrev pub invariant-comps : goal.invariant-comps
 invariant-comps l =
     ((q : List ℕ) → knows l.names q ≡ is_among (map (λ c. c.name.bytes) (map (comp_in l.initial.self.text) l.comps)) q)
-    × Loops (is_word (codes "-")) comp l.initial.self (map (comp_in l.initial.self.text) l.comps) l.self
+    × Loops (is_word (codes "-")) comp_within l.initial.self (map (comp_in l.initial.self.text) l.comps) l.self
 
 abbrev pub decreases-comps : goal.decreases-comps
 decreases-comps l = size (left l.self)

@@ -1,18 +1,23 @@
-use Rattle.std.proofs.Common.{ap, ◌∙◌}
-use Rattle.eco_def.specs.Parsing.{then_read, give, ◌>>=◌}
-use Rattle.eco_def.specs.Grammar.{end_design}
+use Rattle.std.proofs.lemmas.Result.{err_from_is_err_and}
 use Rattle.eco_def.specs.Reading.{left}
+use Rattle.eco_def.proofs.WholeText.{parts_stuck, end_stuck, parts_read, lie_on}
 use Rattle.eco_def.proofs.reader.Reader.design.Goals as goal
+
+pub returns-in_err-sections : goal.returns-in_err-sections
+returns-in_err-sections c =
+    let p = err_from_is_err_and c.from_residual.result c.from_residual.ensures.1 in
+    rw (p.1, p.2) (record { value = parts_stuck (left c.args.self.now) c.in_err-sections.field-0.0 c.in_err-sections.ensures.value; lie = tt })
+
+pub returns-in_err-end_design : goal.returns-in_err-end_design
+returns-in_err-end_design c =
+    let p = err_from_is_err_and c.from_residual-in_err-end_design.result c.from_residual-in_err-end_design.ensures.1 in
+    let v = c.in_ok-sections.ensures.value in
+    rw (p.1, p.2) (record { value = end_stuck (left c.args.self.now) (left c.sections.new.self) v.0 c.in_err-end_design.field-0.0 v.2 c.in_err-end_design.ensures.value; lie = tt })
 
 pub returns : goal.returns
 returns c =
     let v = c.in_ok-sections.ensures.value in
     record {
-      value = (
-        v.0,
-        left c.end_design.new.self,
-        v.1,
-        ap (λ r. then_read r (λ ps. end_design >>= λ end. give ps)) v.2 ∙ ap (λ r. then_read r (λ end. give v.0)) c.in_ok-end_design.ensures.value,
-      );
-      lie = c.in_ok-sections.ensures.lie;
+      value = (v.0, v.1, parts_read (left c.args.self.now) (left c.sections.new.self) (left c.end_design.new.self) v.0 _ v.2 c.in_ok-end_design.ensures.value);
+      lie = lie_on c.args.self.now c.sections.new.self c.end_design.new.self c.in_ok-sections.sections c.in_ok-end_design.ensures.order c.in_ok-sections.ensures.lie;
     }

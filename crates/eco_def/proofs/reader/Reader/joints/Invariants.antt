@@ -1,6 +1,6 @@
 use Rattle.std.proofs.Common.{map, codes}
 use Rattle.eco_def.specs.Parsing.{is_word, size}
-use Rattle.eco_def.specs.Grammar.{joint}
+use Rattle.eco_def.specs.Limits.{joint_within}
 use Rattle.eco_def.specs.View.{joint_in}
 use Rattle.eco_def.specs.Reading.{left}
 use Rattle.eco_def.proofs.Loops.{Loops}
@@ -8,7 +8,7 @@ use Rattle.eco_def.proofs.reader.Reader.joints.Given as goal
 
 -- the joints that were read
 abbrev pub invariant-joints : goal.invariant-joints
-invariant-joints l = Loops (is_word (codes "(")) (λ before. joint) l.initial.self (map (joint_in l.initial.self.text) l.joints) l.self
+invariant-joints l = Loops (is_word (codes "(")) (joint_within l.fn.room) l.initial.self (map (joint_in l.initial.self.text) l.joints) l.self
 
 abbrev pub decreases-joints : goal.decreases-joints
 decreases-joints l = size (left l.self)

@@ -1,10 +1,10 @@
 use Rattle.std.proofs.Common.{◌≡◌, ℕ, List, map, codes}
 use Rattle.eco_def.specs.Parsing.{is_word, is_among, size}
-use Rattle.eco_def.specs.Grammar.{net}
+use Rattle.eco_def.specs.Limits.{net_within, room_behind}
 use Rattle.eco_def.specs.Known.{knows}
 use Rattle.eco_def.specs.View.{net_in}
 use Rattle.eco_def.specs.Reading.{left}
-use Rattle.eco_def.specs.Sections.{ArePlacedBetween, AreOrdinary}
+use Rattle.eco_def.specs.Sections.{ArePlacedBetween, AreOfKind}
 use Rattle.eco_def.proofs.Loops.{Loops}
 use Rattle.eco_def.proofs.reader.Reader.nets.Given as goal
 
@@ -12,9 +12,10 @@ use Rattle.eco_def.proofs.reader.Reader.nets.Given as goal
 abbrev pub invariant-statements : goal.invariant-statements
 invariant-statements l =
     ((q : List ℕ) → knows l.names q ≡ is_among (map (λ n. n.name.bytes) (map (net_in l.initial.self.text) l.nets)) q)
-    × Loops (is_word (codes "-")) net l.initial.self (map (net_in l.initial.self.text) l.nets) l.self
+    × Loops (is_word (codes "-")) (net_within l.fn.room) l.initial.self (map (net_in l.initial.self.text) l.nets) l.self
     × ArePlacedBetween l.initial.self l.self l.nets
-    × AreOrdinary l.nets
+    × AreOfKind l.fn.special l.nets
+    × (l.room_left ≡ room_behind l.fn.room (map (net_in l.initial.self.text) l.nets))
 
 abbrev pub decreases-statements : goal.decreases-statements
 decreases-statements l = size (left l.self)

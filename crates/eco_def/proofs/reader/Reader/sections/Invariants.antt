@@ -1,7 +1,7 @@
 use Rattle.std.proofs.Common.{List, codes, not}
 use Rattle.eco_def.specs.Design.{Part}
 use Rattle.eco_def.specs.Parsing.{is_word, size}
-use Rattle.eco_def.specs.FirstForm.{first_part}
+use Rattle.eco_def.specs.Limits.{part_within}
 use Rattle.eco_def.specs.Reading.{left}
 use Rattle.eco_def.specs.Sections.{AreOf, SectionsLie}
 use Rattle.eco_def.proofs.Loops.{Loops}
@@ -11,8 +11,8 @@ use Rattle.eco_def.proofs.reader.Reader.sections.Given as goal
 abbrev pub invariant-parts : goal.invariant-parts
 invariant-parts l =
     (ps : List Part) × AreOf l.initial.self.text l.sections ps
-    × Loops (λ w. not (is_word (codes "END") w)) first_part l.initial.self ps l.self
-    × SectionsLie l.initial.self l.sections
+    × Loops (λ w. not (is_word (codes "END") w)) part_within l.initial.self ps l.self
+    × SectionsLie l.initial.self l.self l.sections
 
 abbrev pub decreases-parts : goal.decreases-parts
 decreases-parts l = size (left l.self)

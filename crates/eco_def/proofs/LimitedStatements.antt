@@ -1,0 +1,214 @@
+-- Statements and sections with limits beside those without.
+use Rattle.std.proofs.Common.{◌≡◌, inl, inr, ℕ, suc, ◌+◌, ◌-◌, ◌≤◌, nat_lt, Bool, true, false, List, [], ◌∷◌, ◌++◌, length, map, Option, Result, Ok, Err, refl, sym, subst, arith, length-append, codes}
+use Rattle.std.proofs.lemmas.Bool.{ltb-true, ltb-false}
+use Rattle.std.proofs.lemmas.List.Sums.{sum_by-cons}
+use Rattle.eco_text.specs.Words.{Token, Walk, finished, open_quote, word_then}
+use Rattle.eco_def.specs.declared.fault.DefFault.{DefFault}
+use Rattle.eco_def.specs.declared.fault.DefFault.TheVariants.{BadStatement, TwiceNamed, MustJoin, Limit}
+use Rattle.eco_def.specs.declared.room.Room.{Room}
+use Rattle.eco_def.specs.Parsing.{Parser, ◌>>=◌, then_read, give, refuse, any, choose, begins, is_word, word, is_name, new_name, is_among, many, size}
+use Rattle.eco_def.specs.Design.{Comp, TopPin, Joint, Net, NetSection, Part, Comps, Pins, Special, Nets}
+use Rattle.eco_def.specs.Grammar.{comp_new, comp, comps, comp_section, pin_clauses, pin_on, net_in, top_pin_new, top_pin, pin_section, joint, joints, net_tail, net_name, net_new, net, nets, special_section, net_section, section_head, section_end}
+use Rattle.eco_def.specs.Limits.{most_statements, joint_count, room_behind, where_room, new_name_within, comp_new_within, comp_within, comp_section_within, pin_named, top_pin_new_within, top_pin_within, pin_section_within, joint_within, joints_within, net_name_within, net_new_within, net_within, nets_within, special_section_within, net_section_within}
+use Rattle.eco_def.proofs.Limited.{Limited, Never, refusing, as_well, then_after, then_never, then_before, choosing, all_limited, Gives, gives_then, gives_give, no_value}
+use Rattle.eco_def.proofs.Rooms.{joint_count-append}
+
+-- ---- names for which there is no room
+
+full_or_end : (u : Walk) → Limited Never (refuse Limit u) (any u)
+full_or_end (finished place) = inl (refl, λ x v is. no_value _ (x, v) is)
+full_or_end (open_quote place) = inl (refl, λ x v is. no_value _ (x, v) is)
+full_or_end (word_then w u) = inr ((w.start, refl), λ x v is within. within)
+
+full_name : (known : List ℕ → Bool) (u : Walk) → Limited Never (new_name_within false known u) (new_name known u)
+full_name known u =
+    choosing Never is_name (choose (λ w. known w.bytes) (refuse TwiceNamed) (where_room false any)) (refuse BadStatement) (choose (λ w. known w.bytes) (refuse TwiceNamed) any) (refuse BadStatement) u
+    (choosing Never (λ w. known w.bytes) (refuse TwiceNamed) (where_room false any) (refuse TwiceNamed) any u (refusing Never TwiceNamed u) (full_or_end u))
+    (refusing Never BadStatement u)
+
+full_net_name : (known : List ℕ → Bool) (u : Walk) → Limited Never (net_name_within false known u) (net_name known u)
+full_net_name known u = choosing Never (is_word (codes "MUSTJOIN")) (refuse MustJoin) (new_name_within false known) (refuse MustJoin) (new_name known) u (refusing Never MustJoin u) (full_name known u)
+
+length_push : {A : Type 0} (xs : List A) (x : A) → length (xs ++ x ∷ []) ≡ length xs + 1
+length_push xs x = length-append xs (x ∷ [])
+
+-- at most so many values
+abbrev pub AtMost : {A : Type 0} → ℕ → List A → Type 0
+AtMost n xs = length xs ≤ n
+
+at_most_fewer : {A : Type 0} (n : ℕ) (xs : List A) (x : A) → AtMost n (xs ++ x ∷ []) → AtMost n xs
+at_most_fewer n xs x within = let more = length_push xs x in omega (arith, more, within)
+
+-- one value more, with room or without
+one_of_many : {A : Type 0} (n : ℕ) (before : List A) (r : Bool → Result (A × Walk) DefFault) (s : Result (A × Walk) DefFault) → AtMost n before → r true ≡ s → Limited Never (r false) s → Limited (λ x. AtMost n (before ++ x ∷ [])) (r (nat_lt (length before) n)) s
+one_of_many n before r s within open' full = go (nat_lt (length before) n) refl
+  where
+    go : (b : Bool) → nat_lt (length before) n ≡ b → Limited (λ x. AtMost n (before ++ x ∷ [])) (r b) s
+    go true is = inl (open', λ x v read. let more = length_push before x in let room = ltb-true (length before) n is in omega (arith, more, room))
+    go false is = as_well Never (λ x. AtMost n (before ++ x ∷ [])) (r false) s (λ x v read never. absurd never) (λ x v read fits. let more = length_push before x in let room = ltb-false (length before) n is in omega (arith, more, room, fits)) full
+
+-- a section's end gives the section
+ends_as : (keyword : List ℕ) (x : Part) (P : Part → Type 0) → P x → Gives P (section_end keyword >>= λ end. give x)
+ends_as keyword x P holds = gives_then P (section_end keyword) (λ end. give x) (λ end. gives_give P x holds)
+
+-- ---- components
+
+open_comp : (known : List ℕ → Bool) (u : Walk) → comp_new_within true known u ≡ comp_new known u
+unfolding comp_new_within comp_new
+open_comp known u = refl
+
+full_comp : (known : List ℕ → Bool) (u : Walk) → Limited Never (comp_new_within false known u) (comp_new known u)
+unfolding comp_new_within comp_new
+full_comp known u = then_after Never (word (codes "-") u) _ _ (λ dash v. then_never (new_name_within false known v) (new_name known v) _ _ (full_name known v))
+
+limited_comps : (u : Walk) → Limited (AtMost most_statements) (many (is_word (codes "-")) comp_within u) (comps u)
+limited_comps u =
+    all_limited Comp (is_word (codes "-")) comp_within comp (AtMost most_statements) (at_most_fewer most_statements)
+    (λ before v on within. one_of_many most_statements before (λ b. comp_new_within b (is_among (map (λ c. c.name.bytes) before)) v) (comp before v) within (open_comp (is_among (map (λ c. c.name.bytes) before)) v) (full_comp (is_among (map (λ c. c.name.bytes) before)) v))
+    (suc (size u)) [] u (omega arith)
+
+pub limited_comp_section : (P : Part → Type 0) → ((cs : List Comp) → AtMost most_statements cs → P (Comps cs)) → ((cs : List Comp) → P (Comps cs) → AtMost most_statements cs) → (u : Walk) → Limited P (comp_section_within u) (comp_section u)
+unfolding comp_section_within comp_section
+limited_comp_section P there back u =
+    then_after P (section_head (codes "COMPONENTS") u) _ _ (λ count v.
+    then_before (AtMost most_statements) P (many (is_word (codes "-")) comp_within v) (comps v) (λ cs. section_end (codes "COMPONENTS") >>= λ end. give (Comps cs))
+    (λ cs w p r is within. ends_as (codes "COMPONENTS") (Comps cs) P (there cs within) w p r is)
+    (λ cs w p r is. ends_as (codes "COMPONENTS") (Comps cs) (λ k. P k → AtMost most_statements cs) (back cs) w p r is)
+    (limited_comps v))
+
+-- ---- top pins
+
+then_same : {A B : Type 0} (r : Result (A × Walk) DefFault) (f g : A → Parser B) → ((x : A) (v : Walk) → f x v ≡ g x v) → then_read r f ≡ then_read r g
+then_same (Ok x) f g each = each x.0 x.1
+then_same (Err e) f g each = refl
+
+then_assoc : {A B C : Type 0} (r : Result (A × Walk) DefFault) (f : A → Parser B) (g : B → Parser C) → then_read (then_read r f) g ≡ then_read r (λ x v. then_read (f x v) g)
+then_assoc (Ok x) f g = refl
+then_assoc (Err e) f g = refl
+
+open_pin : (known : List ℕ → Bool) (u : Walk) → top_pin_new_within true known u ≡ top_pin_new known u
+unfolding top_pin_new_within pin_named top_pin_new
+open_pin known u =
+    then_same (word (codes "-") u) _ _ (λ dash v. then_same (new_name known v) _ _ (λ n w.
+    then_assoc (pin_clauses w) (λ clauses. pin_on n clauses (net_in clauses)) (λ pin. word (codes ";") >>= λ end. give pin)))
+
+full_pin : (known : List ℕ → Bool) (u : Walk) → Limited Never (top_pin_new_within false known u) (top_pin_new known u)
+unfolding top_pin_new_within top_pin_new
+full_pin known u = then_after Never (word (codes "-") u) _ _ (λ dash v. then_never (new_name_within false known v) (new_name known v) _ _ (full_name known v))
+
+limited_pins : (u : Walk) → Limited (AtMost most_statements) (many (is_word (codes "-")) top_pin_within u) (many (is_word (codes "-")) top_pin u)
+limited_pins u =
+    all_limited TopPin (is_word (codes "-")) top_pin_within top_pin (AtMost most_statements) (at_most_fewer most_statements)
+    (λ before v on within. one_of_many most_statements before (λ b. top_pin_new_within b (is_among (map (λ p. p.name.bytes) before)) v) (top_pin before v) within (open_pin (is_among (map (λ p. p.name.bytes) before)) v) (full_pin (is_among (map (λ p. p.name.bytes) before)) v))
+    (suc (size u)) [] u (omega arith)
+
+pub limited_pin_section : (P : Part → Type 0) → ((ps : List TopPin) → AtMost most_statements ps → P (Pins ps)) → ((ps : List TopPin) → P (Pins ps) → AtMost most_statements ps) → (u : Walk) → Limited P (pin_section_within u) (pin_section u)
+unfolding pin_section_within pin_section
+limited_pin_section P there back u =
+    then_after P (section_head (codes "PINS") u) _ _ (λ count v.
+    then_before (AtMost most_statements) P (many (is_word (codes "-")) top_pin_within v) (many (is_word (codes "-")) top_pin v) (λ ps. section_end (codes "PINS") >>= λ end. give (Pins ps))
+    (λ ps w p r is within. ends_as (codes "PINS") (Pins ps) P (there ps within) w p r is)
+    (λ ps w p r is. ends_as (codes "PINS") (Pins ps) (λ k. P k → AtMost most_statements ps) (back ps) w p r is)
+    (limited_pins v))
+
+-- ---- nets
+
+limited_joint : (room : ℕ) (before : List Joint) (u : Walk) → begins (is_word (codes "(")) u ≡ true → AtMost room before → Limited (λ j. AtMost room (before ++ j ∷ [])) (joint_within room before u) (joint u)
+limited_joint room before u on within = one_of_many room before (λ b. where_room b joint u) (joint u) within refl (full u on)
+  where
+    full : (u : Walk) → begins (is_word (codes "(")) u ≡ true → Limited Never (refuse Limit u) (joint u)
+    full (finished place) on = cc
+    full (open_quote place) on = cc
+    full (word_then w v) on = inr ((w.start, refl), λ x v is within. within)
+
+limited_joints : (room : ℕ) (u : Walk) → Limited (AtMost room) (joints_within room u) (joints u)
+limited_joints room u = all_limited Joint (is_word (codes "(")) (joint_within room) (λ before. joint) (AtMost room) (at_most_fewer room) (limited_joint room) (suc (size u)) [] u (omega arith)
+
+-- the statements have room
+pub record HaveRoom (room : Room) (ns : List Net) : Type 0 where
+  pub nets : length ns ≤ room.nets
+  pub joints : joint_count ns ≤ room.joints
+
+joints_push : (ns : List Net) (n : Net) → joint_count (ns ++ n ∷ []) ≡ joint_count ns + length n.joints
+joints_push ns n =
+    let both = joint_count-append ns (n ∷ []) in
+    let one = sum_by-cons (λ (n : Net). length n.joints) n [] in
+    omega (arith, both, one)
+
+room_fewer : (room : Room) (ns : List Net) (n : Net) → HaveRoom room (ns ++ n ∷ []) → HaveRoom room ns
+room_fewer room ns n within =
+    let more = length_push ns n in
+    let joints = joints_push ns n in
+    record { nets = omega (arith, more, within.nets); joints = omega (arith, joints, within.joints) }
+
+-- a statement behind its -
+abbrev net_behind : Token → Bool → ℕ → (List ℕ → Bool) → Parser Net
+net_behind dash room k known = net_name_within room known >>= λ n. joints_within k >>= λ js. net_tail >>= λ usage. word (codes ";") >>= λ end. give (record { name = n; start = dash.start; end = end.end; usage = usage; joints = js })
+
+open_net : (k : ℕ) (known : List ℕ → Bool) (u : Walk) → Limited (λ n. AtMost k n.joints) (then_read (word (codes "-") u) (λ dash. net_behind dash true k known)) (net_new known u)
+unfolding net_new
+open_net k known u =
+    then_after (λ n. AtMost k n.joints) (word (codes "-") u) _ _ (λ dash v.
+    then_after (λ n. AtMost k n.joints) (net_name known v) _ _ (λ n w.
+    then_before (AtMost k) (λ n. AtMost k n.joints) (joints_within k w) (joints w) (λ js. net_tail >>= λ usage. word (codes ";") >>= λ end. give (record { name = n; start = dash.start; end = end.end; usage = usage; joints = js }))
+    (λ js x y z is within. tail_gives dash n js (λ m. AtMost k m.joints) (λ end usage. within) x y z is)
+    (λ js x y z is. tail_gives dash n js (λ m. AtMost k m.joints → AtMost k js) (λ end usage fits. fits) x y z is)
+    (limited_joints k w)))
+  where
+    tail_gives : (dash n : Token) (js : List Joint) (P : Net → Type 0) → ((end : ℕ) (usage : Option Token) → P (let m : Net = record { name = n; start = dash.start; end = end; usage = usage; joints = js } in m)) →
+        Gives P (net_tail >>= λ usage. word (codes ";") >>= λ end. give (record { name = n; start = dash.start; end = end.end; usage = usage; joints = js }))
+    tail_gives dash n js P holds = gives_then P net_tail _ (λ usage. gives_then P (word (codes ";")) _ (λ end. gives_give P _ (holds end.end usage)))
+
+full_net : (k : ℕ) (known : List ℕ → Bool) (u : Walk) → Limited Never (then_read (word (codes "-") u) (λ dash. net_behind dash false k known)) (net_new known u)
+unfolding net_new
+full_net k known u = then_after Never (word (codes "-") u) _ _ (λ dash v. then_never (net_name_within false known v) (net_name known v) _ _ (full_net_name known v))
+
+net_by : (room : Room) (known : List ℕ → Bool) (u : Walk) → net_new_within room known u ≡ then_read (word (codes "-") u) (λ dash. net_behind dash (nat_lt 0 room.nets) room.joints known)
+unfolding net_new_within
+net_by room known u = refl
+
+limited_net : (room : Room) (before : List Net) (u : Walk) → HaveRoom room before → Limited (λ n. HaveRoom room (before ++ n ∷ [])) (net_within room before u) (net before u)
+limited_net room before u within =
+    let known = is_among (map (λ s. s.name.bytes) before) in
+    subst (λ r. Limited (λ n. HaveRoom room (before ++ n ∷ [])) r (net before u)) (sym (net_by (room_behind room before) known u)) (go known (nat_lt 0 (room.nets - length before)) refl)
+  where
+    go : (known : List ℕ → Bool) (b : Bool) → nat_lt 0 (room.nets - length before) ≡ b → Limited (λ n. HaveRoom room (before ++ n ∷ [])) (then_read (word (codes "-") u) (λ dash. net_behind dash b (room.joints - joint_count before) known)) (net_new known u)
+    go known true is =
+        as_well (λ n. AtMost (room.joints - joint_count before) n.joints) (λ n. HaveRoom room (before ++ n ∷ [])) _ (net_new known u)
+        (λ n v read few.
+        let more = length_push before n in
+        let joints = joints_push before n in
+        let left = ltb-true 0 (room.nets - length before) is in
+        record { nets = omega (arith, more, left); joints = omega (arith, joints, few, within.joints) })
+        (λ n v read fits. let joints = joints_push before n in omega (arith, joints, fits.joints))
+        (open_net (room.joints - joint_count before) known u)
+    go known false is =
+        as_well Never (λ n. HaveRoom room (before ++ n ∷ [])) _ (net_new known u) (λ n v read never. absurd never)
+        (λ n v read fits.
+        let more = length_push before n in
+        let none = ltb-false 0 (room.nets - length before) is in
+        omega (arith, more, none, fits.nets))
+        (full_net (room.joints - joint_count before) known u)
+
+limited_nets : (room : Room) (u : Walk) → Limited (HaveRoom room) (nets_within room u) (nets u)
+limited_nets room u =
+    all_limited Net (is_word (codes "-")) (net_within room) net (HaveRoom room) (room_fewer room) (λ before v on within. limited_net room before v within)
+    (suc (size u)) [] u (record { nets = omega arith; joints = omega arith })
+
+pub limited_special_section : (P : Part → Type 0) (room : Room) → ((ns : List Net) → HaveRoom room ns → P (Special ns)) → ((ns : List Net) → P (Special ns) → HaveRoom room ns) → (u : Walk) → Limited P (special_section_within room u) (special_section u)
+unfolding special_section_within special_section
+limited_special_section P room there back u =
+    then_after P (section_head (codes "SPECIALNETS") u) _ _ (λ count v.
+    then_before (HaveRoom room) P (nets_within room v) (nets v) (λ ns. section_end (codes "SPECIALNETS") >>= λ end. give (Special ns))
+    (λ ns w p r is within. ends_as (codes "SPECIALNETS") (Special ns) P (there ns within) w p r is)
+    (λ ns w p r is. ends_as (codes "SPECIALNETS") (Special ns) (λ k. P k → HaveRoom room ns) (back ns) w p r is)
+    (limited_nets room v))
+
+pub limited_net_section : (P : Part → Type 0) (room : Room) → ((s : NetSection) → HaveRoom room s.nets → P (Nets s)) → ((s : NetSection) → P (Nets s) → HaveRoom room s.nets) → (u : Walk) → Limited P (net_section_within room u) (net_section u)
+unfolding net_section_within net_section
+limited_net_section P room there back u =
+    then_after P (section_head (codes "NETS") u) _ _ (λ count v.
+    then_before (HaveRoom room) P (nets_within room v) (nets v) (λ ns. section_end (codes "NETS") >>= λ end. give (Nets (record { count = count; nets = ns; end = end })))
+    (λ ns w p r is within. gives_then P (section_end (codes "NETS")) _ (λ end. gives_give P (Nets (record { count = count; nets = ns; end = end })) (there (record { count = count; nets = ns; end = end }) within)) w p r is)
+    (λ ns w p r is. gives_then (λ k. P k → HaveRoom room ns) (section_end (codes "NETS")) _ (λ end. gives_give (λ k. P k → HaveRoom room ns) (Nets (record { count = count; nets = ns; end = end })) (back (record { count = count; nets = ns; end = end }))) w p r is)
+    (limited_nets room v))
