@@ -114,3 +114,33 @@ fn statements_as_tools_write_them(rt: HostRuntime) -> Result<(), Fail> {
     );
     Ok(())
 }
+
+/// What the overlay of these joints and new nets writes.
+fn issued(
+    rt: &impl Abort,
+    alloc: Global,
+    text: &str,
+    joints: &[[&'static str; 3]],
+    nets: &[&'static str],
+) -> Result<String, Fail> {
+    let text = text.as_bytes();
+    assert!(rt; text.len() <= 10000);
+    let design = read_def(alloc, text)?;
+    let mut new_joints = Vec::new(alloc);
+    for [comp, pin, net] in joints {
+        new_joints.push(NewJoint {
+            comp: Name::of(alloc, comp.as_bytes())?,
+            pin: Name::of(alloc, pin.as_bytes())?,
+            net: Name::of(alloc, net.as_bytes())?,
+        })?;
+    }
+    let mut new_nets = Vec::new(alloc);
+    for net in nets {
+        new_nets.push(Name::of(alloc, net.as_bytes())?)?;
+    }
+    let overlay = Overlay::of(alloc, text, &design, &new_joints, &new_nets)?;
+    let mut sink = ByteSink::new(Vec::new(alloc));
+    assert!(rt; emit(text, &design, &overlay, &mut sink).is_ok());
+    assert!(rt; emit_len(text, &design, &overlay) == sink.bytes().len() as u64);
+    Ok(String::from_utf8(Vec::from_slice(alloc, sink.bytes())?)?)
+}

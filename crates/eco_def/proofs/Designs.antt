@@ -17,7 +17,7 @@ use Rattle.eco_def.specs.Grammar.{last_some, units_of, comps_of, nets_of, design
 use Rattle.eco_def.specs.FirstForm.{first_parts, joint_count, WithinLimits, IsFirstForm}
 use Rattle.eco_def.specs.View.{comp_in, pin_in, net_in, joint_in, design_in}
 use Rattle.eco_def.specs.Reading.{Reading, left, IsInOrder}
-use Rattle.eco_def.specs.Sections.{AreOf, section_in, IsOfSections, SectionsLie, SectionLies, AreOrdinary, DesignLies, IsFirstDesign, IsReadingOf, fits}
+use Rattle.eco_def.specs.Sections.{AreOf, section_in, IsOfSections, SectionsLie, SectionLies, AreOrdinary, FirstLies, DesignLies, SpecialFirst, IsFirstDesign, IsReadingOf, fits}
 use Rattle.eco_def.proofs.WalkOrder.{words_in_order}
 use Rattle.eco_def.proofs.FirstForms.{first_form}
 
@@ -41,12 +41,16 @@ design_is text s ps d a is ordinary =
     ∙ ap (λ o. design_from ps (Some d.units) (Some (map (comp_in text) d.comps)) o) nets
     ∙ ap Ok (rw (a.pins, a.special, is.pins, ordinary_all d.nets ordinary, special_none d.nets ordinary) refl)
 
-pub lies_is : (text : List ℕ) (old : Reading) (s : Sections) (d : Design) → left old ≡ walk_of text → IsOfSections s d → SectionsLie old s → DesignLies (length text) d
+pub lies_is : (text : List ℕ) (old : Reading) (s : Sections) (d : Design) → left old ≡ walk_of text → IsOfSections s d → SectionsLie old s → FirstLies (length text) d
 lies_is text old s d start is lie =
     let ns : NetSection = record { count = d.net_count; nets = d.nets; end = d.nets_end } in
     let l = subst (λ o. IfSome o (λ ns. (lo hi : ℕ) → IsInOrder lo hi (left old) → SectionLies lo hi ns)) is.nets lie.lie in
     let o = subst (λ o. IfSome o (λ ns. AreOrdinary ns.nets)) is.nets lie.ordinary in
     record { lies = l 0 (length text) (subst (IsInOrder 0 (length text)) (sym start) (words_in_order text)); ordinary = o; no_pins = is.pins }
+
+-- a design with NETS alone lies as one whose SPECIALNETS is empty
+nets_alone : (n : ℕ) (d : Design) → FirstLies n d → DesignLies n d
+nets_alone n d first = SpecialFirst 0 [] d.nets refl tt first.ordinary (omega arith) first.lies
 
 pub first_design : (text : List ℕ) (old : Reading) (s : Sections) (ps : List said.Part) (rest : Walk) (r : Result Design FirstFault) →
     old.text ≡ text → left old ≡ walk_of text → AreOf old.text s ps → first_parts (left old) ≡ Ok (ps, rest) → SectionsLie old s → IfOk r (IsOfSections s) → IfOk r (IsFirstDesign text)
@@ -117,7 +121,7 @@ pub within_form : (text : List ℕ) (d : Design) → IsFirstDesign text d → fi
 within_form text d first is = record { read = first.read; limits = fits_limits text d first.lies.ordinary first.lies.no_pins is }
 
 pub within_reading : (text : List ℕ) (d : Design) → length text ≤ 134217728 → IsFirstDesign text d → fits d ≡ true → IsReadingOf text d
-within_reading text d short first is = record { short = short; read = first_form text (design_in text d) first.read; limits = fits_limits text d first.lies.ordinary first.lies.no_pins is; lies = first.lies }
+within_reading text d short first is = record { short = short; read = first_form text (design_in text d) first.read; limits = fits_limits text d first.lies.ordinary first.lies.no_pins is; lies = nets_alone (length text) d first.lies }
 
 abbrev the : Result said.Design FirstFault → said.Design → said.Design
 the (Ok x) d = x

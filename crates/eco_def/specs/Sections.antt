@@ -1,5 +1,5 @@
 -- What was read at the top level, part by part.
-use Rattle.std.specs.Prelude.{◌≡◌, ℕ, ◌<◌, ◌≤◌, nat_le, ◌&&◌, sum_by, Bool, false, List, [], ◌∷◌, length, map, Option, Some, None, is_some, IfSome, Result, Ok, Err, OnOk, IfOk, MatchResult, codes}
+use Rattle.std.specs.Prelude.{◌≡◌, ℕ, ◌<◌, ◌≤◌, nat_le, ◌&&◌, sum_by, Bool, true, false, List, [], ◌∷◌, ◌++◌, length, map, Option, Some, None, is_some, IfSome, Result, Ok, Err, OnOk, IfOk, MatchResult, codes}
 use Rattle.std.specs.Option.{option_map}
 use Rattle.eco_text.specs.Words.{Walk}
 use Rattle.eco_text.specs.Cursor.{token}
@@ -160,8 +160,17 @@ pub record IsOfSections (s : Sections) (d : Design) : Type 0 where
   pub pins : d.pins ≡ []
   pub nets : s.nets ≡ Some (record { count = d.net_count; nets = d.nets; end = d.nets_end })
 
--- Where NETS lies in a text of n bytes. So far a design has no other section of nets, and no top pins.
-pub record DesignLies (n : ℕ) (d : Design) : Type 0 where
+abbrev pub AreSpecial : List NetStatement → Type 0
+AreSpecial [] = Unit {0}
+AreSpecial (s ∷ ss) = (s.special ≡ true) × AreSpecial ss
+
+-- Where the statements lie in a text of n bytes: those of SPECIALNETS and those of NETS, one section behind the other.
+pub data DesignLies (n : ℕ) (d : Design) : Type 0 where
+  SpecialFirst : (mid : ℕ) (special nets : List NetStatement) → d.nets ≡ special ++ nets → AreSpecial special → AreOrdinary nets → ArePlaced 0 mid special → LiesBetween mid n d.net_count nets d.nets_end → DesignLies n d
+  NetsFirst : (mid : ℕ) (nets special : List NetStatement) → d.nets ≡ nets ++ special → AreOrdinary nets → AreSpecial special → LiesBetween 0 mid d.net_count nets d.nets_end → ArePlaced mid n special → DesignLies n d
+
+-- NETS is the only section of nets, and there are no top pins
+pub record FirstLies (n : ℕ) (d : Design) : Type 0 where
   pub lies : LiesBetween 0 n d.net_count d.nets d.nets_end
   pub ordinary : AreOrdinary d.nets
   pub no_pins : d.pins ≡ []
@@ -169,7 +178,7 @@ pub record DesignLies (n : ℕ) (d : Design) : Type 0 where
 -- the text has this design, under the first headings alone
 pub record IsFirstDesign (text : List ℕ) (d : Design) : Type 0 where
   pub read : first_design_of text ≡ Ok (design_in text d)
-  pub lies : DesignLies (length text) d
+  pub lies : FirstLies (length text) d
 
 -- the counts are within the limits
 abbrev pub fits : Design → Bool
