@@ -23,7 +23,7 @@ use Rattle.eco_issued.specs.Changes.{NewJoint, Fresh, Changes, is_nil, is_of, pi
 use Rattle.eco_base.specs.declared.pin_move.PinMove.{PinMove}
 use Rattle.eco_base.specs.declared.new_joint.NewJoint as code
 use Rattle.eco_base.specs.declared.net_changes.NetChanges.{NetChanges}
-use Rattle.eco_base.specs.PinMoves.{new_joint, named_joint, moved_pin, pin_cmp, word_bytes, marked_in, stands_in, AreInOrder, AreMarked, ArePinsApart}
+use Rattle.eco_base.specs.PinMoves.{new_joint, named_joint, moved_pin, pin_cmp, word_bytes, marked_in, stands_in, AreInOrder, AreMarked, ArePinsApart, same_pin, are_pins_apart}
 use Rattle.eco_base.specs.NetChanges.{coming, pins_on, pins_for, is_statement_of, fresh_of, changes_in, first_stated}
 use Rattle.eco_base.proofs.Sorting.{SameSums, Ascends, ascends_sorted, in_order_is, map_sums, filter_sums}
 use Rattle.eco_base.proofs.Orders.{eq_sym, pins_linear, names_linear, pins_ascend, precedes_is}
@@ -200,3 +200,23 @@ move_more js i j old new m lt at is same off before = (
       ∙ sym (map-append named_joint (take i js) (j ∷ [])) ∙ ap (λ k. map named_joint (take i js ++ k ∷ [])) at ∙ ap (map named_joint) (sym (take_more js i j lt)),
   ap (list_any (λ k. k.stands)) is ∙ unmarked_more old m before.1 off,
 )
+
+-- ---- the test of pins
+
+all_others : (n : NewJoint) (ns : List NewJoint) → not (list_any (same_pin n) ns) ≡ true → AllByRecursion (λ k. same_pin n k ≡ false) ns
+all_others n [] on = tt
+all_others n (k ∷ ns) on = at (all_others n ns) (same_pin n k) refl on
+  where
+    at : (not (list_any (same_pin n) ns) ≡ true → AllByRecursion (λ j. same_pin n j ≡ false) ns) → (b : Bool) → same_pin n k ≡ b → not (b || list_any (same_pin n) ns) ≡ true →
+        (same_pin n k ≡ false) × AllByRecursion (λ j. same_pin n j ≡ false) ns
+    at rest true e off = cc
+    at rest false e off = (e, rest off)
+
+and_parts : (a b : Bool) → (a && b) ≡ true → (a ≡ true) × (b ≡ true)
+and_parts true b e = (refl, e)
+and_parts false b e = cc
+
+pub apart_from : (ns : List NewJoint) → are_pins_apart ns ≡ true → ArePinsApart ns
+unfolding IsDistinct
+apart_from [] on = tt
+apart_from (n ∷ ns) on = let parts = and_parts (not (list_any (same_pin n) ns)) (are_pins_apart ns) on in (all_others n ns parts.0, apart_from ns parts.1)

@@ -1,5 +1,5 @@
 -- The code's moved pins, and what the code looks at in a design, as the definitions have them.
-use Rattle.std.specs.Prelude.{◌≡◌, ℕ, ◌<◌, Bool, ◌&&◌, ◌||◌, List, [], ◌∷◌, map, length, get_or, Option, Some, None}
+use Rattle.std.specs.Prelude.{◌≡◌, ℕ, ◌<◌, Bool, ◌&&◌, ◌||◌, List, [], ◌∷◌, map, length, get_or, Option, Some, None, not, true}
 use Rattle.std.specs.List.{list_any, IsDistinct}
 use Rattle.std.specs.List.Sorted.{IsStrictlySortedBy, IsPermutation}
 use Rattle.std.specs.Ordering.{ordering_then, nat_cmp}
@@ -36,6 +36,11 @@ same_pin n k = bytes_eq n.comp k.comp && bytes_eq n.pin k.pin
 -- No two joints are of one pin.
 abbrev pub ArePinsApart : List NewJoint → Type 0
 ArePinsApart joints = IsDistinct same_pin joints
+
+-- the test of it
+abbrev pub are_pins_apart : List NewJoint → Bool
+are_pins_apart [] = true
+are_pins_apart (n ∷ ns) = not (list_any (same_pin n) ns) && are_pins_apart ns
 
 -- by component, then by pin
 abbrev pub pin_cmp : NamedJoint → NamedJoint → Ordering
