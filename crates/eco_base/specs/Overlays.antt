@@ -1,14 +1,12 @@
--- Edits that share one list of new bytes.
-use Rattle.std.specs.Prelude.{◌≡◌, ℕ, ◌≤◌, Bool, false, not, ◌&&◌, List, [], ◌∷◌, slice_range, if◌then◌else◌}
-use Rattle.std.specs.List.{list_all}
-use Rattle.std.specs.Str.{bytes_eq}
+-- Edits that share one list of new bytes, and edits that leave out what stays.
+use Rattle.std.specs.Prelude.{◌≡◌, ℕ, ◌≤◌, Bool, true, false, List, [], ◌∷◌, ◌++◌, slice_range, if◌then◌else◌}
+use Rattle.std.specs.List.{flat_map}
 use Rattle.eco_def.specs.declared.design.Design.{Design}
 use Rattle.eco_def.specs.Design as said
-use Rattle.eco_def.specs.Named.{joint_names}
 use Rattle.eco_def.specs.View.{design_in}
 use Rattle.eco_base.specs.declared.stretch.Stretch.{Stretch}
-use Rattle.eco_issued.specs.Changes.{NewJoint, stays_on, pin_of}
-use Rattle.eco_issued.specs.Issued.{Edit, statement_text, IsOverlayOf}
+use Rattle.eco_issued.specs.Changes.{NewJoint, Fresh, Changes}
+use Rattle.eco_issued.specs.Issued.{Edit, net_edit, count_text, fresh_text, stays_whole, nets_first, IsOverlayOf}
 
 -- each stretch is replaced by the bytes from where the one before ends
 abbrev pub edits_of : List ℕ → ℕ → List Stretch → List Edit
@@ -20,16 +18,33 @@ abbrev pub Rises : ℕ → ℕ → List Stretch → Type 0
 Rises lo hi [] = lo ≡ hi
 Rises lo hi (s ∷ ss) = (lo ≤ s.upto) × Rises s.upto hi ss
 
--- a statement of NETS where one pin is put on its net, and comes new or not
-abbrev pub moved_text : List ℕ → NewJoint → Bool → said.Net → List ℕ
-moved_text text n comes s = statement_text text (stays_on (n ∷ []) s.name.bytes) (if comes then pin_of n ∷ [] else []) false s
+-- the edit of a statement that changes
+abbrev pub changed_edits : List ℕ → Changes → Bool → said.Net → List Edit
+changed_edits text o special s = if stays_whole o special s then [] else net_edit text o special s ∷ []
 
--- The edit of a statement of NETS where one pin is put on its net: none where nothing changes. The pin comes new to its net where it doesn't stand there.
-abbrev pub move_edits : List ℕ → NewJoint → Bool → said.Net → List Edit
-move_edits text n stands s =
-    let comes = not stands && bytes_eq s.name.bytes n.net in
-    if list_all (λ j. stays_on (n ∷ []) s.name.bytes (joint_names j)) s.joints && not comes then []
-    else record { start = s.start; end = s.end; bytes = moved_text text n comes s } ∷ []
+-- the edits of the statements that change
+abbrev pub all_changed : List ℕ → Changes → Bool → List said.Net → List Edit
+all_changed text o special ss = flat_map (changed_edits text o special) ss
+
+-- the edit of the count word, where there are new statements
+abbrev pub counted : List ℕ → Changes → said.NetSection → List Fresh → List Edit
+counted text o s [] = []
+counted text o s (f ∷ fs) = record { start = s.count.start; end = s.count.end; bytes = count_text text o s (f ∷ fs) } ∷ []
+
+-- the edit before the END of NETS, where there are new statements
+abbrev pub appended : said.NetSection → List Fresh → List Edit
+appended s [] = []
+appended s (f ∷ fs) = record { start = s.end; end = s.end; bytes = flat_map fresh_text (f ∷ fs) } ∷ []
+
+-- the edits of NETS, without what stays
+abbrev pub section_changed : List ℕ → Changes → said.NetSection → List Edit
+section_changed text o s = counted text o s o.fresh ++ (all_changed text o false s.nets ++ appended s o.fresh)
+
+-- the edits of a design, without what stays
+abbrev pub design_changed : List ℕ → Changes → said.Design → List Edit
+design_changed text o d =
+    if nets_first d.special d.nets then section_changed text o d.nets ++ all_changed text o true d.special
+    else all_changed text o true d.special ++ section_changed text o d.nets
 
 -- the overlay was made for the text and its design
 abbrev pub IsMadeFor : List ℕ → Design → List Edit → Type 0

@@ -1,5 +1,10 @@
-use crate::{MoveFault, emit, emit_len, move_joint};
+ghost use Rattle.std.specs.Prelude.{◌≡◌, map};
+ghost use Rattle.std.specs.List.{list_any};
+ghost use Rattle.eco_base.specs.PinMoves.{named_joint, same_pin, are_pins_apart};
+
+use crate::{NewJoint, Overlay, emit, emit_len, move_joint};
 use eco_def::read_def;
+use eco_func::Name;
 use eco_text::ByteSink;
 use std::alloc::Global;
 use std::process::Abort;
@@ -112,5 +117,140 @@ fn statements_as_tools_write_them(rt: HostRuntime) -> Result<(), Fail> {
         moved(&rt, rt.alloc(), text, ["u/1", "A", "a[0]", "c"])?.as_str(),
         wanted
     );
+    Ok(())
+}
+
+fn is_of_pin(joint: &NewJoint, other: &NewJoint) -> bool
+    ensures { result ≡ same_pin (named_joint joint.now) (named_joint other.now) }
+{
+    joint.comp.is(other.comp.bytes()) && joint.pin.is(other.pin.bytes())
+}
+
+fn is_named(joint: &NewJoint, others: &[NewJoint]) -> bool
+    ensures { result ≡ list_any (same_pin (named_joint joint.now)) (map named_joint others.now) }
+{
+    match others {
+        [other, rest @ ..] => is_of_pin(joint, other) || is_named(joint, rest),
+        [] => false,
+    }
+}
+
+/// Whether no two joints name the same pin.
+fn are_apart(joints: &[NewJoint]) -> bool
+    ensures { result ≡ are_pins_apart (map named_joint joints.now) }
+{
+    match joints {
+        [joint, rest @ ..] => !is_named(joint, rest) && are_apart(rest),
+        [] => true,
+    }
+}
+
+/// What the overlay of these joints and new nets writes.
+#[tactic(auto, using(crate::proofs::Changing::apart_from))]
+fn issued(
+    rt: &impl Abort,
+    alloc: Global,
+    text: &str,
+    joints: &[[&'static str; 3]],
+    nets: &[&'static str],
+) -> Result<String, Fail> {
+    let text = text.as_bytes();
+    assert!(rt; text.len() <= 10000);
+    let design = read_def(alloc, text)?;
+    let mut new_joints = Vec::new(alloc);
+    for [comp, pin, net] in joints {
+        new_joints.push(NewJoint {
+            comp: Name::of(alloc, comp.as_bytes())?,
+            pin: Name::of(alloc, pin.as_bytes())?,
+            net: Name::of(alloc, net.as_bytes())?,
+        })?;
+    }
+    let mut new_nets = Vec::new(alloc);
+    for net in nets {
+        new_nets.push(Name::of(alloc, net.as_bytes())?)?;
+    }
+    assert!(rt; are_apart(&new_joints));
+    let overlay = Overlay::of(alloc, text, &design, &new_joints, &new_nets)?;
+    let mut sink = ByteSink::new(Vec::new(alloc));
+    assert!(rt; emit(text, &design, &overlay, &mut sink).is_ok());
+    assert!(rt; emit_len(text, &design, &overlay) == sink.bytes().len() as u64);
+    Ok(String::from_utf8(Vec::from_slice(alloc, sink.bytes())?)?)
+}
+
+const ONE_GATE: &str = "UNITS DISTANCE MICRONS 1000 ;
+COMPONENTS 3 ;
+- u1 NAND2 + PLACED ( 1000 1000 ) N ;
+- u2 INV + PLACED ( 3000 1000 ) N ;
+- SP_1 NAND2 + FIXED ( 2000 2000 ) N ;
+END COMPONENTS
+NETS 6 ;
+- VDD + USE POWER ;
+- VSS ( SP_1 A ) ( SP_1 B ) + USE GROUND ;
+- a ( u1 A ) ;
+- b ( u1 B ) ;
+- n1 ( u1 Y ) ( u2 A ) ;
+- n2 ( u2 Y ) ;
+END NETS
+END DESIGN
+";
+
+#[test]
+fn a_gate_on_a_spare(rt: HostRuntime) -> Result<(), Fail> {
+    let alloc = rt.alloc();
+    let joints = [
+        ["SP_1", "Y", "m1"],
+        ["u2", "A", "m1"],
+        ["SP_1", "B", "a"],
+        ["SP_1", "A", "VDD"],
+    ];
+    let wanted = ONE_GATE
+        .replace(alloc, "NETS 6 ;", "NETS 7 ;")?
+        .replace(alloc, "- VDD +", "- VDD ( SP_1 A ) +")?
+        .replace(alloc, "- VSS ( SP_1 A ) ( SP_1 B ) +", "- VSS +")?
+        .replace(alloc, "- a ( u1 A ) ;", "- a ( u1 A ) ( SP_1 B ) ;")?
+        .replace(alloc, "- n1 ( u1 Y ) ( u2 A ) ;", "- n1 ( u1 Y ) ;")?
+        .replace(alloc, "END NETS", "- m1 ( SP_1 Y ) ( u2 A ) ;\nEND NETS")?;
+    assert_eq!(rt; issued(&rt, alloc, ONE_GATE, &joints, &["m1"])?, wanted);
+    Ok(())
+}
+
+#[test]
+fn a_gate_between_routed_nets(rt: HostRuntime) -> Result<(), Fail> {
+    let alloc = rt.alloc();
+    let joints = [["SP_1", "B", "n1"], ["SP_1", "Y", "m1"], ["r1", "D", "m1"]];
+    let wanted = TEXT
+        .replace(alloc, "NETS 6 ;", "NETS 7 ;")?
+        .replace(
+            alloc,
+            "- n1 ( u1 Y ) ( u2 A ) + ROUTED M1 ( 1000 1000 ) ( 3000 * ) ;",
+            "- n1 ( u1 Y ) ( u2 A ) ( SP_1 B ) ;",
+        )?
+        .replace(alloc, "- n2 ( u2 Y ) ( r1 D ) ;", "- n2 ( u2 Y ) ;")?
+        .replace(alloc, "END NETS", "- m1 ( SP_1 Y ) ( r1 D ) ;\nEND NETS")?;
+    assert_eq!(rt; issued(&rt, alloc, TEXT, &joints, &["m1"])?, wanted);
+    Ok(())
+}
+
+#[test]
+fn pins_and_new_nets_in_order(rt: HostRuntime) -> Result<(), Fail> {
+    let text = "UNITS DISTANCE MICRONS 1 ; COMPONENTS 0 ; END COMPONENTS\n\
+        NETS 2 ; - a ( u1 B ) ( u2 A ) + USE CLOCK ; - b ; END NETS END DESIGN";
+    let joints = [
+        ["u2", "C", "a"],
+        ["u10", "B", "a"],
+        ["u10", "A", "a"],
+        ["u2", "A", "n10"],
+        ["u1", "B", "a"],
+        ["u9", "Z", "b"],
+        ["u9", "A", "n9"],
+    ];
+    let wanted = "UNITS DISTANCE MICRONS 1 ; COMPONENTS 0 ; END COMPONENTS\n\
+        NETS 6 ; - a ( u1 B ) ( u10 A ) ( u10 B ) ( u2 C ) + USE CLOCK ; - b ( u9 Z ) ; \
+        - N ;\n- n10 ( u2 A ) ;\n- n9 ( u9 A ) ;\n- o ;\nEND NETS END DESIGN";
+    assert_eq!(rt;
+        issued(&rt, rt.alloc(), text, &joints, &["o", "n9", "n10", "N"])?.as_str(),
+        wanted
+    );
+    assert_eq!(rt; issued(&rt, rt.alloc(), text, &[], &[])?.as_str(), text);
     Ok(())
 }

@@ -1,0 +1,52 @@
+//! Bytes of words, and sets of names.
+
+ghost use Rattle.std.specs.Prelude.{◌≡◌, ℕ, List, true, not, IfOk, OnOk, if◌then◌else◌};
+ghost use Rattle.std.specs.Str.{bytes_eq};
+ghost use Rattle.std.specs.List.Sorted.{IsPermutation, IsSortedBy};
+ghost use Rattle.std.specs.Ordering.{is_lt, nat_cmp};
+ghost use Rattle.std.specs.Cmp.Lexicographic.{slice_cmp};
+ghost use Rattle.eco_def.specs.Known.{knows};
+ghost use Rattle.eco_issued.specs.Changes.{is_no_component as no_component};
+ghost use Rattle.eco_base.specs.PinMoves.{word_bytes};
+
+use eco_text::{Word, between};
+use std::alloc::AllocError;
+use std::collections::HashMap;
+
+/// A set of names.
+pub type Names<'a> = HashMap<&'a [u8], ()>;
+
+/// Adds a name, and says whether it is new.
+pub fn add_name<'a>(names: &mut Names<'a>, name: &'a [u8]) -> Result<bool, AllocError>
+    ensures added { IfOk result (λ b. b ≡ not (knows names.old name.now)) }
+    ensures names { OnOk result ((q : List ℕ) → knows names.new q ≡ (if bytes_eq name.now q then true else knows names.old q)) }
+{
+    Ok(names.insert(name, ())?.is_none())
+}
+
+pub fn has_name(names: &Names<'_>, name: &[u8]) -> bool
+    ensures { result ≡ knows names.now name.now }
+{
+    names.get(&name).is_some()
+}
+
+/// Puts names in order, by their bytes.
+pub fn sort_names(names: &mut Vec<&[u8]>)
+    ensures permutation { IsPermutation names.old.items names.new.items }
+    ensures order { IsSortedBy (λ x y. is_lt (slice_cmp nat_cmp x.now y.now)) names.new.items }
+{
+    names.sort_unstable();
+}
+
+pub fn bytes_at(text: &[u8], word: Word) -> &[u8]
+    ensures { result.now ≡ word_bytes text.now word }
+{
+    between(text, word.start, word.end)
+}
+
+/// Whether no component can have the name.
+pub fn is_no_component(name: &[u8]) -> bool
+    ensures { result ≡ no_component name.now }
+{
+    matches!(name, b"PIN" | b"*")
+}

@@ -1,0 +1,11 @@
+//! A pin on a net.
+
+use eco_func::Name;
+
+/// A pin of a component, and the net that it is put on.
+#[derive(Drop)]
+pub struct NewJoint {
+    pub comp: Name,
+    pub pin: Name,
+    pub net: Name,
+}
