@@ -1,4 +1,6 @@
 pub mod Opening
 mod Answering
 mod Ending
+mod Reading
 mod Words
+mod Writing

@@ -1,55 +1,55 @@
 -- What a command prints and answers.
-use Rattle.std.specs.Prelude.{◌≡◌, ℕ, decimal, ◌⊎◌, List, [], ◌∷◌, ◌++◌, Option, Some, None, Result, Ok, Err, codes}
+use Rattle.std.specs.Prelude.{◌≡◌, ℕ, decimal, ◌⊎◌, List, [], ◌∷◌, ◌++◌, Option, Result, Ok, Err, codes}
 use Rattle.std.specs.Io.KnownBytes.{append_known}
 use Rattle.eco_text.specs.Causes.{Rose, AppendsFront}
 use Rattle.eco_base.specs.declared.fault.MoveFault.{MoveFault}
-use Rattle.eco_base.specs.declared.fault.MoveFault.TheVariants.{UnknownComponent, NotOnNet, UnknownNet, Memory}
+use Rattle.eco_base.specs.declared.fault.MoveFault.TheVariants as moving
+use Rattle.eco_cli.specs.declared.done.Done.{Done}
+use Rattle.eco_cli.specs.declared.done.Done.TheVariants as done
 use Rattle.eco_cli.specs.declared.failure.Failure.{Failure}
 use Rattle.eco_cli.specs.declared.failure.Failure.TheVariants as failed
+use Rattle.eco_cli.specs.declared.refusal.Refusal.{Refusal}
+use Rattle.eco_cli.specs.declared.refusal.Refusal.TheVariants as refused
 
-abbrev pub status_of : Result ℕ Failure → ℕ
-status_of (Ok n) = 0
+abbrev pub status_of : Result Done Failure → ℕ
+status_of (Ok d) = 0
 status_of (Err (failed.Words n)) = 2
-status_of (Err failed.TooLong) = 1
-status_of (Err failed.Def) = 1
-status_of (Err (failed.Move fault)) = 1
+status_of (Err (failed.TooLong option)) = 1
+status_of (Err (failed.Refused refusal)) = 1
 status_of (Err failed.Read) = 3
 status_of (Err failed.Write) = 4
 status_of (Err failed.Memory) = 6
 
 abbrev pub move_words : MoveFault → List ℕ
-move_words UnknownComponent = codes "eco: move UnknownComponent"
-move_words NotOnNet = codes "eco: move NotOnNet"
-move_words UnknownNet = codes "eco: move UnknownNet"
-move_words Memory = codes "eco: memory"
+move_words moving.UnknownComponent = codes "eco: move UnknownComponent"
+move_words moving.NotOnNet = codes "eco: move NotOnNet"
+move_words moving.UnknownNet = codes "eco: move UnknownNet"
+move_words moving.Memory = codes "eco: memory"
 
--- what a line begins with
-abbrev pub head_of : Result ℕ Failure → List ℕ
-head_of (Ok n) = codes "written "
-head_of (Err (failed.Words n)) = codes "eco: words "
-head_of (Err failed.TooLong) = codes "eco: TooLong --def"
-head_of (Err failed.Def) = codes "eco: def NotYet"
-head_of (Err (failed.Move fault)) = move_words fault
-head_of (Err failed.Read) = codes "eco: read fault"
-head_of (Err failed.Write) = codes "eco: write fault"
-head_of (Err failed.Memory) = codes "eco: memory"
+abbrev pub refusal_text : Refusal → List ℕ
+refusal_text refused.Def = codes "eco: def NotYet"
+refusal_text (refused.Move fault) = move_words fault
 
--- the number at its end: how many bytes were written, or the index of the bad word
-abbrev pub number_of : Result ℕ Failure → Option ℕ
-number_of (Ok n) = Some n
-number_of (Err (failed.Words n)) = Some n
-number_of (Err f) = None
+-- how many bytes were written
+abbrev pub done_text : Done → List ℕ
+done_text (done.Written n) = codes "written " ++ decimal n
 
-abbrev pub with_number : List ℕ → Option ℕ → List ℕ
-with_number head None = head
-with_number head (Some n) = head ++ decimal n
+-- of bad words the index of the first
+abbrev pub failure_text : Failure → List ℕ
+failure_text (failed.Words n) = codes "eco: words " ++ decimal n
+failure_text (failed.TooLong option) = codes "eco: TooLong " ++ option.now
+failure_text (failed.Refused refusal) = refusal_text refusal
+failure_text failed.Read = codes "eco: read fault"
+failure_text failed.Write = codes "eco: write fault"
+failure_text failed.Memory = codes "eco: memory"
 
-abbrev pub line_of : Result ℕ Failure → List ℕ
-line_of r = with_number (head_of r) (number_of r) ++ 10 ∷ []
+-- what is printed: a line, or several
+abbrev pub line_of : Result Done Failure → List ℕ
+line_of (Ok d) = done_text d ++ 10 ∷ []
+line_of (Err f) = failure_text f ++ 10 ∷ []
 
--- The line was printed, and this is the status; or the output failed, after a front of the line; or there was no memory for the line.
+-- It was printed, and this is the status; or the output failed, after a front of it.
 abbrev pub Tells : Option (List ℕ) → Option (List ℕ) → ℕ → ℕ → List ℕ → ℕ → ℕ → Type 0
 Tells old new before now line status answer =
     ((answer ≡ status) × (new ≡ append_known old line))
     ⊎ ((answer ≡ 4) × AppendsFront old new line × Rose before now)
-    ⊎ ((answer ≡ 6) × (new ≡ old))

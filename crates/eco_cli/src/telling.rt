@@ -1,54 +1,84 @@
-//! The line that a command prints, and its status.
+//! What a command prints, and its status.
 
-ghost use Rattle.std.specs.Prelude.{◌≡◌, ◌≤◌, decimal, ◌++◌, [], ◌∷◌, Err};
+ghost use Rattle.std.specs.Prelude.{◌≡◌, ◌≤◌, decimal, ◌++◌, [], ◌∷◌};
 ghost use Rattle.std.specs.List.{flat_map};
-ghost use Rattle.eco_text.specs.Writing.{joined};
-ghost use Rattle.eco_cli.specs.Telling.{status_of, number_of, head_of, move_words, line_of, Tells};
+ghost use Rattle.eco_text.specs.Writing.{joined, Writes};
+ghost use Rattle.eco_cli.specs.Telling.{status_of, move_words, refusal_text, failure_text, done_text, line_of, Tells};
 
+use crate::done::Done;
 use crate::failure::Failure;
+use crate::refusal::Refusal;
 use eco_base::MoveFault;
-use eco_text::{Sink, write_pieces};
-use std::alloc::Global;
-
-fn refused_move(fault: MoveFault) -> &'static [u8]
-    ensures { result.now ≡ move_words fault }
-{
-    match fault {
-        MoveFault::UnknownComponent => b"eco: move UnknownComponent",
-        MoveFault::NotOnNet => b"eco: move NotOnNet",
-        MoveFault::UnknownNet => b"eco: move UnknownNet",
-        MoveFault::Memory => b"eco: memory",
-    }
-}
-
-/// The parts of a line, one behind another, and the status, or 4 where they can't be printed.
-fn tell_line<O: Sink>(parts: &[&[u8]], status: u8, out: &mut O) -> u8
-    ensures tells { Tells (O.taken out.old) (O.taken out.new) (O.faults out.old) (O.faults out.new) (joined parts.now) status result }
-    ensures later { O.faults out.old ≤ O.faults out.new }
-{
-    match write_pieces(out, parts) {
-        Ok(()) => status,
-        Err(_) => 4,
-    }
-}
+use eco_text::{Failed, Sink, write_piece, write_pieces};
+use itoa::Buffer;
 
 /// A line that ends with a number.
-fn tell_number<O: Sink>(alloc: Global, head: &[u8], number: u64, status: u8, out: &mut O) -> u8
-    ensures tells { Tells (O.taken out.old) (O.taken out.new) (O.faults out.old) (O.faults out.new) ((head.now ++ decimal number) ++ 10 ∷ []) status result }
-    ensures later { O.faults out.old ≤ O.faults out.new }
+fn print_number<O: Sink>(head: &[u8], number: u64, out: &mut O) -> Result<(), Failed>
+    ensures { Writes O.taken O.faults out.old out.new result ((head.now ++ decimal number) ++ 10 ∷ []) }
 {
-    match format!(in alloc; "{number}") {
-        Ok(digits) => tell_line(&[head, digits.as_bytes(), b"\n"], status, out),
-        Err(_) => 6,
+    let mut buffer = Buffer::new();
+    let digits = buffer.format(number);
+    write_pieces(out, &[head, digits.as_bytes(), b"\n"])
+}
+
+fn print_done<O: Sink>(done: &Done, out: &mut O) -> Result<(), Failed>
+    ensures { Writes O.taken O.faults out.old out.new result (done_text done.now ++ 10 ∷ []) }
+{
+    match done {
+        Done::Written(length) => print_number(b"written ", *length, out),
     }
 }
 
-fn status(outcome: &Result<u64, Failure>) -> u8
+fn move_line(fault: MoveFault) -> &'static [u8]
+    ensures { result.now ≡ move_words fault ++ 10 ∷ [] }
+{
+    match fault {
+        MoveFault::UnknownComponent => b"eco: move UnknownComponent\n",
+        MoveFault::NotOnNet => b"eco: move NotOnNet\n",
+        MoveFault::UnknownNet => b"eco: move UnknownNet\n",
+        MoveFault::Memory => b"eco: memory\n",
+    }
+}
+
+fn print_refusal<O: Sink>(refusal: &Refusal, out: &mut O) -> Result<(), Failed>
+    ensures { Writes O.taken O.faults out.old out.new result (refusal_text refusal.now ++ 10 ∷ []) }
+{
+    match refusal {
+        Refusal::Def => write_piece(b"eco: def NotYet\n", out),
+        Refusal::Move(fault) => write_piece(move_line(*fault), out),
+    }
+}
+
+fn print_failure<O: Sink>(failure: &Failure, out: &mut O) -> Result<(), Failed>
+    ensures { Writes O.taken O.faults out.old out.new result (failure_text failure.now ++ 10 ∷ []) }
+{
+    match failure {
+        Failure::Words(place) => print_number(b"eco: words ", *place as u64, out),
+        Failure::TooLong(option) => {
+            write_pieces(out, &[b"eco: TooLong ", option.as_bytes(), b"\n"])
+        }
+        Failure::Refused(refusal) => print_refusal(refusal, out),
+        Failure::Read => write_piece(b"eco: read fault\n", out),
+        Failure::Write => write_piece(b"eco: write fault\n", out),
+        Failure::Memory => write_piece(b"eco: memory\n", out),
+    }
+}
+
+fn print<O: Sink>(outcome: &Result<Done, Failure>, out: &mut O) -> Result<(), Failed>
+    ensures { Writes O.taken O.faults out.old out.new result (line_of outcome.now) }
+{
+    match outcome {
+        Ok(done) => print_done(done, out),
+        Err(failure) => print_failure(failure, out),
+    }
+}
+
+fn status(outcome: &Result<Done, Failure>) -> u8
     ensures { result ≡ status_of outcome.now }
 {
     match outcome {
         Ok(_) => 0,
-        Err(Failure::TooLong | Failure::Def | Failure::Move(_)) => 1,
+        Err(Failure::TooLong(_) | Failure::Refused(_)) => 1,
         Err(Failure::Words(_)) => 2,
         Err(Failure::Read) => 3,
         Err(Failure::Write) => 4,
@@ -56,39 +86,13 @@ fn status(outcome: &Result<u64, Failure>) -> u8
     }
 }
 
-fn number(outcome: &Result<u64, Failure>) -> Option<u64>
-    ensures { result ≡ number_of outcome.now }
-{
-    match outcome {
-        Ok(length) => Some(*length),
-        Err(Failure::Words(place)) => Some(*place as u64),
-        Err(_) => None,
-    }
-}
-
-fn head(outcome: &Result<u64, Failure>) -> &'static [u8]
-    ensures { result.now ≡ head_of outcome.now }
-{
-    match outcome {
-        Ok(_) => b"written ",
-        Err(Failure::Words(_)) => b"eco: words ",
-        Err(Failure::TooLong) => b"eco: TooLong --def",
-        Err(Failure::Def) => b"eco: def NotYet",
-        Err(Failure::Move(fault)) => refused_move(*fault),
-        Err(Failure::Read) => b"eco: read fault",
-        Err(Failure::Write) => b"eco: write fault",
-        Err(Failure::Memory) => b"eco: memory",
-    }
-}
-
-/// Prints the line of an outcome, and gives its status.
-pub fn tell<O: Sink>(alloc: Global, outcome: &Result<u64, Failure>, out: &mut O) -> u8
+/// Prints what is told of an outcome, and gives its status, or 4 where it can't be printed.
+pub fn tell<O: Sink>(outcome: &Result<Done, Failure>, out: &mut O) -> u8
     ensures tells { Tells (O.taken out.old) (O.taken out.new) (O.faults out.old) (O.faults out.new) (line_of outcome.now) (status_of outcome.now) result }
     ensures later { O.faults out.old ≤ O.faults out.new }
 {
-    let status = status(outcome);
-    match number(outcome) {
-        Some(number) => tell_number(alloc, head(outcome), number, status, out),
-        None => tell_line(&[head(outcome), b"\n"], status, out),
+    match print(outcome, out) {
+        Ok(()) => status(outcome),
+        Err(_) => 4,
     }
 }

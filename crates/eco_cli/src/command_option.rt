@@ -1,0 +1,20 @@
+//! An option of a command, as its table lists it.
+
+/// What the value of an option is.
+#[derive(Clone, Copy, Debug, Drop, PartialEq, Eq)]
+pub enum OptionKind {
+    /// The name of an input, which is read. It has at most that many bytes.
+    Input { limit: u32 },
+    /// Any value.
+    Text,
+}
+
+/// An option: its word, as `--def`, and what its value is.
+#[derive(Clone, Copy, Debug, Drop)]
+pub struct CommandOption {
+    pub word: &'static str,
+    pub kind: OptionKind,
+}
+
+/// The most bytes of a DEF.
+pub const DEF_LIMIT: u32 = 134_217_728;
