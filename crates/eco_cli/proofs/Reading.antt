@@ -57,9 +57,6 @@ ready_one : {I : Type 0} (ready : Ready I) (before : List Input) (i : Input) →
 ready_one ready [] i = refl
 ready_one ready (b ∷ bs) i = ready_one (without_first b.name ready) bs i
 
-pub nothing_read : {T I O : Type 0} (h : Told T I O) (left : I → Option (List ℕ)) (t : T) → HaveRead h left t t [] []
-nothing_read h left t = record { read = tt; asked = asks_none (h.asked t) (h.asked t) refl; rest = refl; refused = refl }
-
 pub one_more : {T I O V : Type 0} (h : Told T I O) (left : I → Option (List ℕ)) (old mid new : T) (before : List Input) (texts : List (List ℕ)) (i : Input) (bytes : V → List ℕ) (v : V) →
     HaveRead h left old mid before texts → Reading h left mid new i bytes (Ok v) → HaveRead h left old new (before ++ i ∷ []) (texts ++ bytes v ∷ [])
 one_more h left old mid new before texts i bytes v have reading = record {
@@ -145,9 +142,6 @@ inputs_around ws os k d i lt names =
 pub input_is : (o : CommandOption) (ws : List (List ℕ)) (limit : ℕ) (name : List ℕ) → o.kind ≡ kind.Input limit → name ≡ value_of ws o.word.now →
     input_at o.kind o.word.now ws ≡ record { option = o.word.now; name = name; limit = limit } ∷ []
 input_is o ws limit name is named = rw (is, named) refl
-
-pub no_input : (o : CommandOption) (ws : List (List ℕ)) (is : List Input) → o.kind ≡ kind.Text → is ≡ is ++ input_at o.kind o.word.now ws
-no_input o ws is text = rw text (sym (append-nil is))
 
 pub settled_then : {T I O : Type 0} (h : Told T I O) (old mid new : T) → Settled h old mid → Settled h mid new → Settled h old new
 settled_then h old mid new one two = record {

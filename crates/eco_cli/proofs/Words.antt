@@ -62,13 +62,3 @@ line_is g (x ∷ ws) d w some is = rw is (ap (λ r. g x ∷ map g r) (sym (take_
 
 pub bad_behind : (w : List ℕ) (ws : List (List ℕ)) (c : Command) (k : ℕ) → command_named w ≡ Some c → IsFirstBad (options_of c) ws k → IsBadWord (w ∷ ws) (k + 1)
 bad_behind w ws c k is bad = inr (c, is, (k, refl, bad))
-
-pub bad_command : (w : List ℕ) (ws : List (List ℕ)) → command_named w ≡ None → IsBadWord (w ∷ ws) 0
-bad_command w ws is = inl (is, refl)
-
-pub asks : (w : List ℕ) (ws : List (List ℕ)) (c : Command) → command_named w ≡ Some c → HasReading (options_of c) ws → Asks (w ∷ ws) c ws
-asks w ws c is read = (is, refl, read)
-
-pub no_words : {A : Type 0} (g : A → List ℕ) (ws : List A) → length ws < 1 → IsBadWord (map g ws) 0
-no_words g [] none = refl
-no_words g (x ∷ ws) none = absurd (omega arith)

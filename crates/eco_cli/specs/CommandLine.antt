@@ -3,6 +3,7 @@ use Rattle.std.specs.Prelude.{◌≡◌, ℕ, ◌-◌, ◌<◌, ◌⊎◌, ◌%�
 use Rattle.std.specs.List.{list_all, list_any, flat_map}
 use Rattle.std.specs.Str.{bytes_eq}
 use Rattle.eco_cli.specs.Job.{Input}
+use Rattle.eco_cli.specs.ValueForms.{is_name_list, is_table, is_feed_list}
 use Rattle.eco_cli.specs.declared.command_option.CommandOption.{CommandOption}
 use Rattle.eco_cli.specs.declared.command_option.OptionKind.{OptionKind}
 use Rattle.eco_cli.specs.declared.command_option.OptionKind.TheVariants as kind
@@ -37,6 +38,9 @@ is_value (b ∷ bs) = not (b == 45)
 abbrev pub has_form : OptionKind → List ℕ → Bool
 has_form (kind.Input limit) w = true
 has_form kind.Text w = true
+has_form kind.Names w = is_name_list w
+has_form kind.Table w = is_table w
+has_form kind.Feeds w = is_feed_list w
 
 -- the value has the form that its option asks
 abbrev pub suits : List Listed → List ℕ → List ℕ → Bool
@@ -77,7 +81,7 @@ value_of (o ∷ v ∷ ws) option = if bytes_eq o option then v else value_of ws 
 -- the input that an option names, if it names one
 abbrev pub input_at : OptionKind → List ℕ → List (List ℕ) → List Input
 input_at (kind.Input limit) option ws = record { option = option; name = value_of ws option; limit = limit } ∷ []
-input_at kind.Text option ws = []
+input_at k option ws = []
 
 -- the inputs that the words name, in the order of the table
 abbrev pub inputs_in : List Listed → List (List ℕ) → List Input

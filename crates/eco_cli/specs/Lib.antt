@@ -2,6 +2,7 @@ pub mod Opens
 pub mod Laid
 pub mod Whole
 pub mod Job
+pub mod ValueForms
 pub mod CommandLine
 pub mod MoveCommand
 pub mod Commands

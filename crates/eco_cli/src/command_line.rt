@@ -7,6 +7,7 @@ ghost use Rattle.std.specs.Str.{bytes_eq};
 ghost use Rattle.eco_cli.specs.CommandLine.{listed_of, is_listed, is_among, options_in, is_value, has_form, suits, is_bad, is_complete, HasReading, IsFirstBad, value_of, output_in};
 
 use crate::command_option::{CommandOption, OptionKind};
+use crate::value_form::{is_feed_list, is_name_list, is_table};
 
 fn names_option(table: &[CommandOption], word: &str) -> bool
     ensures { result ≡ list_any (λ o. bytes_eq (listed_of o).word word.now) table.now }
@@ -38,9 +39,11 @@ fn can_be_value(word: &str) -> bool
 fn can_have(kind: OptionKind, word: &str) -> bool
     ensures { result ≡ has_form kind word.now }
 {
-    let _ = word;
     match kind {
         OptionKind::Input { limit: _ } | OptionKind::Text => true,
+        OptionKind::Names => is_name_list(word),
+        OptionKind::Table => is_table(word),
+        OptionKind::Feeds => is_feed_list(word),
     }
 }
 

@@ -7,6 +7,12 @@ pub enum OptionKind {
     Input { limit: u32 },
     /// Any value.
     Text,
+    /// A list of names with commas. None is empty.
+    Names,
+    /// A truth table of at most six inputs: 0 or 1 for each row.
+    Table,
+    /// A list of at most six feeds with commas: 0, 1, or an input of the gate, `i0` to `i5`.
+    Feeds,
 }
 
 /// An option: its word, as `--def`, and what its value is.

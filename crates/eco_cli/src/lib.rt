@@ -22,6 +22,7 @@ mod returned;
 mod running;
 mod telling;
 mod texts;
+mod value_form;
 
 pub use crate::host::Host;
 pub use crate::host_fault::{HostFault, Memory};
