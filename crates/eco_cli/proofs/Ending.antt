@@ -12,6 +12,10 @@ use Rattle.eco_cli.proofs.Reading.{asks_then, asks_front, rose_since}
 
 -- ---- what was asked
 
+-- some first opens of the inputs are some first opens of all
+asks_first : (xs ys : List Asked) (k : ℕ) (old new : Option (List Asked)) → AsksAll (take k xs) old new → AsksAll (take (min k (length xs)) (xs ++ ys)) old new
+asks_first xs ys k old new asked = subst (λ opens. AsksAll opens old new) (sym (take-append-le (min k (length xs)) xs ys (omega arith) ∙ take_min k xs)) asked
+
 asks_sources : (xs ys : List Asked) (old new : Option (List Asked)) → AsksAll xs old new → AsksAll (take (length xs + 0) (xs ++ ys)) old new
 asks_sources xs ys old new asked = asks_front xs ys 0 old new (subst (λ opens. AsksAll opens old new) (sym (append-nil xs)) asked)
 
@@ -32,6 +36,16 @@ are_within ready left (i ∷ is) [] read = absurd read
 are_within ready left (i ∷ is) (t ∷ ts) read = (read.1, are_within (without_first i.name ready) left is ts read.2)
 
 -- ---- the ends of a job
+
+pub ends_reading : {T I O V : Type 0} (h : Told T I O) (left : I → Option (List ℕ)) (taken : O → Option (List ℕ)) (old new : T) (j : Job) (texts : V → List (List ℕ)) (e : Failure) →
+    ReadingAll h left old new j.inputs texts (Err e) → h.sinks_back new ≡ h.sinks_back old → Ends h left taken old new j (Err e)
+ends_reading h left taken old new j texts (failed.Words n) r back = absurd r
+ends_reading h left taken old new j texts (failed.TooLong option) r back = (r, back)
+ends_reading h left taken old new j texts (failed.Refused refusal) r back = absurd r
+ends_reading h left taken old new j texts failed.Read r back = (back, inl r)
+ends_reading h left taken old new j texts failed.Write r back = absurd r
+ends_reading h left taken old new j texts failed.Memory r back =
+    ((min r.0.0 (length (source_opens j.inputs)), asks_first (source_opens j.inputs) (sink_opens j.output) r.0.0 (h.asked old) (h.asked new) r.0.1), back, r.1)
 
 pub ends_planning : {T I O V : Type 0} (h : Told T I O) (left : I → Option (List ℕ)) (taken : O → Option (List ℕ)) (old new : T) (j : Job) (texts : V → List (List ℕ)) (v : V) (e : Failure) →
     ReadingAll h left old new j.inputs texts (Ok v) → h.sinks_back new ≡ h.sinks_back old → Plans (j.Gives (texts v)) (j.Refuses (texts v)) (Err e) → Ends h left taken old new j (Err e)

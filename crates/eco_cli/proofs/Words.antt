@@ -1,5 +1,5 @@
 -- The words of a command line.
-use Rattle.std.proofs.Common.{◌≡◌, ℕ, zero, suc, inl, inr, ◌-◌, ◌+◌, ◌%◌, ◌<◌, ◌≤◌, ◌⊎◌, Bool, true, false, not, ◌&&◌, ◌||◌, Some, None, List, [], ◌∷◌, map, take, drop, length, get_or, refl, ap, sym, arith}
+use Rattle.std.proofs.Common.{◌≡◌, ℕ, zero, suc, inl, inr, ◌-◌, ◌+◌, ◌%◌, ◌<◌, ◌≤◌, ◌⊎◌, Bool, true, false, not, ◌&&◌, ◌||◌, Some, List, [], ◌∷◌, map, take, drop, length, get_or, refl, ap, sym, arith}
 use Rattle.std.proofs.lemmas.List.{take_all}
 use Rattle.std.specs.List.{list_all, list_any}
 use Rattle.std.specs.Str.{bytes_eq}
@@ -62,3 +62,7 @@ line_is g (x ∷ ws) d w some is = rw is (ap (λ r. g x ∷ map g r) (sym (take_
 
 pub bad_behind : (w : List ℕ) (ws : List (List ℕ)) (c : Command) (k : ℕ) → command_named w ≡ Some c → IsFirstBad (options_of c) ws k → IsBadWord (w ∷ ws) (k + 1)
 bad_behind w ws c k is bad = inr (c, is, (k, refl, bad))
+
+pub asked_reads : (ws : List (List ℕ)) (c : Command) (behind : List (List ℕ)) → Asks ws c behind → HasReading (options_of c) behind
+asked_reads [] c behind asks = absurd asks
+asked_reads (w ∷ ws) c behind asks = rw asks.1 asks.2

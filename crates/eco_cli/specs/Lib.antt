@@ -5,6 +5,7 @@ pub mod Job
 pub mod ValueForms
 pub mod CommandLine
 pub mod MoveCommand
+pub mod ApplyCommand
 pub mod Commands
 pub mod Ending
 pub mod Steps

@@ -6,7 +6,7 @@ ghost use Rattle.eco_cli.specs.Commands.{command_named, options_of, Asks, IsBadW
 
 use crate::command_line::first_bad;
 use crate::command_option::CommandOption;
-use crate::move_words::MOVE_OPTIONS;
+use crate::move_words::move_options;
 
 /// A command of the program.
 #[derive(Clone, Copy, Debug, Drop, PartialEq, Eq)]
@@ -36,7 +36,7 @@ pub fn options(command: Command) -> &'static [CommandOption]
     ensures { map listed_of result.now ≡ options_of command }
 {
     match command {
-        Command::Move => &MOVE_OPTIONS,
+        Command::Move => move_options(),
     }
 }
 

@@ -24,3 +24,6 @@ pub struct CommandOption {
 
 /// The most bytes of a DEF.
 pub const DEF_LIMIT: u32 = 134_217_728;
+
+/// The most bytes of a functions file.
+pub const FUNCTIONS_LIMIT: u32 = 16_777_216;

@@ -1,6 +1,7 @@
 //! The commands of `eco`, over any host.
 #![tactic(auto)]
 
+mod apply_words;
 mod command;
 mod command_line;
 mod command_option;

@@ -1,12 +1,13 @@
 //! The words of the command `move`.
 
 ghost use Rattle.std.specs.Prelude.{◌≡◌, map, string_bytes};
-ghost use Rattle.eco_cli.specs.MoveCommand.{move_in, move_of};
+ghost use Rattle.eco_cli.specs.CommandLine.{listed_of};
+ghost use Rattle.eco_cli.specs.MoveCommand.{move_in, move_of, move_options};
 
 use crate::command_line::value;
 use crate::command_option::{CommandOption, DEF_LIMIT, OptionKind};
 
-pub static MOVE_OPTIONS: [CommandOption; 6] = [
+static MOVE_OPTIONS: [CommandOption; 6] = [
     CommandOption {
         word: "--def",
         kind: OptionKind::Input { limit: DEF_LIMIT },
@@ -32,6 +33,13 @@ pub static MOVE_OPTIONS: [CommandOption; 6] = [
         kind: OptionKind::Text,
     },
 ];
+
+/// The options of `move`, in the order in which inputs are opened.
+pub fn move_options() -> &'static [CommandOption]
+    ensures { map listed_of result.now ≡ move_options }
+{
+    &MOVE_OPTIONS
+}
 
 /// The pin that is moved, and its nets.
 #[derive(Clone, Copy, Drop)]

@@ -2,7 +2,7 @@
 
 ghost use Rattle.std.specs.Prelude.{◌≡◌, map, string_bytes};
 ghost use Rattle.eco_text.specs.Writing.{Writes};
-ghost use Rattle.eco_cli.specs.CommandLine.{inputs_in};
+ghost use Rattle.eco_cli.specs.CommandLine.{HasReading, inputs_in};
 ghost use Rattle.eco_cli.specs.Commands.{options_of, Gives, Refuses};
 ghost use Rattle.eco_cli.specs.Steps.{AreWithin, Plans, CanBeIssued, bytes_of, told_of};
 
@@ -27,7 +27,8 @@ pub enum Plan {
 
 /// What the texts of the inputs give a command, or why they are refused.
 pub fn make_plan(alloc: Global, asked: &Asked<'_>, texts: Vec<Vec<u8>>) -> Result<Plan, Failure>
-    requires { AreWithin (inputs_in (options_of asked.now.command) (map string_bytes asked.now.values.now)) (map (λ t. t.items) texts.items) }
+    requires reading { HasReading (options_of asked.now.command) (map string_bytes asked.now.values.now) }
+    requires within { AreWithin (inputs_in (options_of asked.now.command) (map string_bytes asked.now.values.now)) (map (λ t. t.items) texts.items) }
     ensures { Plans (Gives asked.now.command (map string_bytes asked.now.values.now) (map (λ t. t.items) texts.items)) (Refuses asked.now.command (map string_bytes asked.now.values.now) (map (λ t. t.items) texts.items)) result }
 {
     let mut texts = texts;

@@ -3,7 +3,8 @@
 ghost use Rattle.std.specs.Prelude.{◌≡◌, ℕ, ◌≤◌, ◌⊎◌, map, string_bytes, Result, Ok, Err};
 ghost use Rattle.std.specs.Io.KnownBytes.{append_known};
 ghost use Rattle.eco_text.specs.Causes.{Rose};
-ghost use Rattle.eco_cli.specs.Commands.{job_of, IsBadWord};
+ghost use Rattle.eco_cli.specs.CommandLine.{HasReading};
+ghost use Rattle.eco_cli.specs.Commands.{options_of, job_of, IsBadWord};
 ghost use Rattle.eco_cli.specs.Opens.{Settled};
 ghost use Rattle.eco_cli.specs.Ending.{Ends, Comes, IsRefusal};
 ghost use Rattle.eco_cli.specs.Telling.{status_of, line_of, Tells};
@@ -25,6 +26,7 @@ use std::alloc::Global;
 
 /// Reads the inputs, works on their texts, and writes the output where there is one.
 fn carry_out<H: Host>(alloc: Global, asked: &Asked<'_>, host: &mut H) -> Result<Done, Failure>
+    requires { HasReading (options_of asked.now.command) (map string_bytes asked.now.values.now) }
     ensures ends { Ends H.told H.Input.left H.Output.taken host.old host.new (job_of asked.now.command (map string_bytes asked.now.values.now)) result }
     ensures settled { Settled H.told host.old host.new }
 {

@@ -4,14 +4,25 @@ use Rattle.std.proofs.lemmas.Result.{err_from_is_err_and}
 use Rattle.eco_cli.specs.CommandLine.{inputs_in, output_in}
 use Rattle.eco_cli.specs.Commands.{job_of, options_of}
 use Rattle.eco_cli.specs.Steps.{ReadingAll, Plans, Writing, bytes_of}
-use Rattle.eco_cli.proofs.Ending.{are_within, ends_planning, ends_done, ends_writing}
+use Rattle.eco_cli.proofs.Ending.{are_within, ends_reading, ends_planning, ends_done, ends_writing}
 use Rattle.eco_cli.proofs.running.carry_out.Goals as goal
 
-pub make_plan-requires : goal.make_plan-requires
-make_plan-requires g c =
+pub make_plan-requires-clause-within : goal.make_plan-requires-clause-within
+make_plan-requires-clause-within g c =
     let ws = map string_bytes c.args.asked.now.values.now in
     let reading = rw c.options-options.ensures at c.in_ok-texts.ensures.reading in
     are_within (g.H.Host.told.sources c.args.host.now) g.H.Input.Source.left (inputs_in (options_of c.args.asked.now.command) ws) (map (λ t. t.items) c.in_ok-texts.texts.items) reading.0
+
+pub returns-in_err-texts-clause-ends : goal.returns-in_err-texts-clause-ends
+returns-in_err-texts-clause-ends g c =
+    let h = g.H.Host.told in
+    let left = g.H.Input.Source.left in
+    let j = job_of c.args.asked.now.command (map string_bytes c.args.asked.now.values.now) in
+    let texts : Vec (Vec ℕ Global) Global → List (List ℕ) = λ v. map (λ t. t.items) v.items in
+    let reading : ReadingAll h left c.args.host.now c.read_texts.new.host j.inputs texts (Err c.in_err-texts.field-0.0) =
+    subst (λ table. ReadingAll h left c.args.host.now c.read_texts.new.host (inputs_in table (map string_bytes c.args.asked.now.values.now)) texts (Err c.in_err-texts.field-0.0)) c.options-options.ensures c.in_err-texts.ensures.reading in
+    let p = err_from_is_err_and c.from_residual.result c.from_residual.ensures.1 in
+    rw (p.1, p.2) (ends_reading h left g.H.Output.Sink.taken c.args.host.now c.read_texts.new.host j texts c.in_err-texts.field-0.0 reading c.in_err-texts.ensures.sinks)
 
 pub returns-in_err-plan-clause-ends : goal.returns-in_err-plan-clause-ends
 returns-in_err-plan-clause-ends g c =
