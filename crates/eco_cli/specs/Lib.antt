@@ -1,6 +1,12 @@
 pub mod Opens
 pub mod Laid
+pub mod Whole
+pub mod Job
+pub mod ValueForms
 pub mod CommandLine
 pub mod MoveCommand
-pub mod Whole
+pub mod ApplyCommand
+pub mod Commands
+pub mod Ending
+pub mod Steps
 pub mod Telling

@@ -1,56 +1,57 @@
-//! Running a command line.
+//! The commands, and what a command line asks.
 
-ghost use Rattle.std.specs.Prelude.{◌≡◌, ℕ, ◌≤◌, ◌⊎◌, map, string_bytes, Result, Ok, Err};
-ghost use Rattle.std.specs.Io.KnownBytes.{append_known};
-ghost use Rattle.eco_text.specs.Causes.{Rose};
-ghost use Rattle.eco_cli.specs.CommandLine.{IsBadWord};
-ghost use Rattle.eco_cli.specs.Opens.{Settled};
-ghost use Rattle.eco_cli.specs.MoveCommand.{Comes, IsRefusal};
-ghost use Rattle.eco_cli.specs.Telling.{status_of, line_of, Tells};
-ghost use Rattle.eco_cli.specs.declared.failure.Failure.{Failure};
-ghost use Rattle.eco_cli.specs.declared.failure.Failure.TheVariants.{Words};
+ghost use Rattle.std.specs.Prelude.{◌≡◌, map, string_bytes, MatchResult};
+ghost use Rattle.eco_cli.specs.CommandLine.{listed_of};
+ghost use Rattle.eco_cli.specs.Commands.{command_named, options_of, Asks, IsBadWord};
 
-use crate::failure::Failure;
-use crate::host::Host;
-use crate::move_words::read_move;
-use crate::moving::move_pin;
-use crate::telling::tell;
-use eco_text::{Sink, Source};
-use std::alloc::Global;
+use crate::command_line::first_bad;
+use crate::command_option::CommandOption;
+use crate::move_words::move_options;
 
-fn work<H: Host>(alloc: Global, words: &[String], host: &mut H) -> Result<u64, Failure>
-    ensures comes { Comes H.told H.Input.left H.Output.taken host.old host.new (map string_bytes words.now) result }
-    ensures settled { Settled H.told host.old host.new }
+/// A command of the program.
+#[derive(Clone, Copy, Debug, Drop, PartialEq, Eq)]
+pub enum Command {
+    Move,
+}
+
+/// What a command line asks: a command, and the words behind it.
+#[derive(Clone, Copy, Drop)]
+pub struct Asked<'a> {
+    pub command: Command,
+    pub values: &'a [String],
+}
+
+fn named(word: &str) -> Option<Command>
+    ensures { result ≡ command_named word.now }
 {
-    match read_move(words) {
-        Ok(asked) => move_pin(alloc, host, &asked),
-        Err(place) => Err(Failure::Words(place)),
+    if word == "move" {
+        Some(Command::Move)
+    } else {
+        None
     }
 }
 
-/// Runs the command that the words ask for: it opens what they name at the host, prints one line, and answers its status.
-///
-/// 0: done. 1: the DEF or the move is refused, and no output was opened. 2: the words have no reading. 3: an open was
-/// refused or a read failed. 4: a write failed. 6: memory ran out. The input is not read.
-pub fn run<H: Host, S: Source, O: Sink>(
-    alloc: Global,
-    words: &[String],
-    host: &mut H,
-    input: &mut S,
-    out: &mut O,
-) -> u8
-    ensures answered { (r : Result ℕ Failure) × Comes H.told H.Input.left H.Output.taken host.old host.new (map string_bytes words.now) r × Tells (O.taken out.old) (O.taken out.new) (O.faults out.old) (O.faults out.new) (line_of r) (status_of r) result }
-    ensures done { result ≡ 0 → (n : ℕ) × Comes H.told H.Input.left H.Output.taken host.old host.new (map string_bytes words.now) (Ok n) × (O.taken out.new ≡ append_known (O.taken out.old) (line_of (Ok n))) }
-    ensures refused { result ≡ 1 → (e : Failure) × IsRefusal e × Comes H.told H.Input.left H.Output.taken host.old host.new (map string_bytes words.now) (Err e) × (O.taken out.new ≡ append_known (O.taken out.old) (line_of (Err e))) }
-    ensures words { result ≡ 2 → (n : ℕ) × Comes H.told H.Input.left H.Output.taken host.old host.new (map string_bytes words.now) (Err (Words n)) × (O.taken out.new ≡ append_known (O.taken out.old) (line_of (Err (Words n)))) }
-    ensures bad_word { (n : ℕ) → IsBadWord (map string_bytes words.now) n → (result ≡ 2) ⊎ ((result ≡ 4) ⊎ (result ≡ 6)) }
-    ensures read { result ≡ 3 → Rose (H.told.refused host.old) (H.told.refused host.new) ⊎ Rose (H.told.read_faults host.old) (H.told.read_faults host.new) }
-    ensures write { result ≡ 4 → Rose (H.told.write_faults host.old) (H.told.write_faults host.new) ⊎ Rose (O.faults out.old) (O.faults out.new) }
-    ensures settled { Settled H.told host.old host.new }
-    ensures later { O.faults out.old ≤ O.faults out.new }
-    ensures input { input.new ≡ input.old }
+/// The options of a command, in the order in which inputs are opened.
+pub fn options(command: Command) -> &'static [CommandOption]
+    ensures { map listed_of result.now ≡ options_of command }
 {
-    let _ = input;
-    let outcome = work(alloc, words, host);
-    tell(alloc, &outcome, out)
+    match command {
+        Command::Move => move_options(),
+    }
+}
+
+/// What a command line asks, or the index of its first bad word.
+pub fn read_line<'a>(words: &'a [String]) -> Result<Asked<'a>, usize>
+    ensures { MatchResult result (λ a. Asks (map string_bytes words.now) a.command (map string_bytes a.values.now)) (λ n. IsBadWord (map string_bytes words.now) n) }
+{
+    let [word, values @ ..] = words else {
+        return Err(0);
+    };
+    let Some(command) = named(word.as_str()) else {
+        return Err(0);
+    };
+    match first_bad(options(command), values) {
+        Some(place) => Err(place + 1),
+        None => Ok(Asked { command, values }),
+    }
 }

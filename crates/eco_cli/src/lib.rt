@@ -1,24 +1,34 @@
 //! The commands of `eco`, over any host.
 #![tactic(auto)]
 
+mod apply_words;
 mod command;
 mod command_line;
+mod command_option;
+mod done;
 mod failure;
 mod host;
 mod host_fault;
 mod input;
+mod issued;
 mod laid;
 mod memory;
 mod move_words;
 mod moving;
 mod open;
+mod output;
+mod plan;
+mod refusal;
 mod returned;
+mod running;
 mod telling;
+mod texts;
+mod value_form;
 
-pub use crate::command::run;
 pub use crate::host::Host;
 pub use crate::host_fault::{HostFault, Memory};
 pub use crate::memory::MemoryHost;
+pub use crate::running::run;
 
 #[cfg(test)]
 mod tests;

@@ -1,97 +1,128 @@
-//! The line that a command prints, and its status.
+//! What a command prints, and its status.
 
-ghost use Rattle.std.specs.Prelude.{◌≡◌, ◌≤◌, decimal, ◌++◌, [], ◌∷◌, Err};
+ghost use Rattle.std.specs.Prelude.{◌≡◌, ◌≤◌, decimal, ◌++◌, [], ◌∷◌};
 ghost use Rattle.std.specs.List.{flat_map};
-ghost use Rattle.eco_text.specs.Writing.{joined};
-ghost use Rattle.eco_cli.specs.Telling.{status_of, number_of, head_of, move_words, def_words, missing_words, def_place, line_of, Tells};
+ghost use Rattle.eco_text.specs.Writing.{joined, Writes};
+ghost use Rattle.eco_cli.specs.Telling.{status_of, move_words, section_words, def_text, refusal_text, failure_text, done_text, line_of, Tells};
 
+use crate::done::Done;
 use crate::failure::Failure;
+use crate::refusal::Refusal;
 use eco_base::MoveFault;
 use eco_def::{DefFault, Section};
-use eco_text::{Sink, TextFault, write_pieces};
-use std::alloc::Global;
-
-fn refused_move(fault: MoveFault) -> &'static [u8]
-    ensures { result.now ≡ move_words fault }
-{
-    match fault {
-        MoveFault::UnknownComponent => b"eco: move UnknownComponent",
-        MoveFault::NotOnNet => b"eco: move NotOnNet",
-        MoveFault::UnknownNet => b"eco: move UnknownNet",
-        MoveFault::Memory => b"eco: memory",
-    }
-}
-
-/// What the line of a DEF's fault begins with, before its place.
-fn refused_def(fault: DefFault) -> &'static [u8]
-    ensures { result.now ≡ def_words fault }
-{
-    match fault {
-        DefFault::Text(TextFault::OpenQuote { .. }) => b"eco: def Text OpenQuote place=",
-        DefFault::UnknownHeading { .. } => b"eco: def UnknownHeading place=",
-        DefFault::Unended { .. } => b"eco: def Unended place=",
-        DefFault::BadStatement { .. } => b"eco: def BadStatement place=",
-        DefFault::TwiceNamed { .. } => b"eco: def TwiceNamed place=",
-        DefFault::MustJoin { .. } => b"eco: def MustJoin place=",
-        DefFault::Limit { .. } => b"eco: def Limit place=",
-        DefFault::Missing { which } => missing_section(which),
-        DefFault::Memory => b"eco: memory",
-    }
-}
-
-fn missing_section(which: Section) -> &'static [u8]
-    ensures { result.now ≡ missing_words which }
-{
-    match which {
-        Section::Units => b"eco: def Missing which=UNITS",
-        Section::Components => b"eco: def Missing which=COMPONENTS",
-        Section::Nets => b"eco: def Missing which=NETS",
-    }
-}
-
-fn place_of_fault(fault: DefFault) -> Option<u64>
-    ensures { result ≡ def_place fault }
-{
-    match fault {
-        DefFault::Text(TextFault::OpenQuote { place }) => Some(place as u64),
-        DefFault::UnknownHeading { place }
-        | DefFault::Unended { place }
-        | DefFault::BadStatement { place }
-        | DefFault::TwiceNamed { place }
-        | DefFault::MustJoin { place }
-        | DefFault::Limit { place } => Some(place as u64),
-        DefFault::Missing { .. } | DefFault::Memory => None,
-    }
-}
-
-/// The parts of a line, one behind another, and the status, or 4 where they can't be printed.
-fn tell_line<O: Sink>(parts: &[&[u8]], status: u8, out: &mut O) -> u8
-    ensures tells { Tells (O.taken out.old) (O.taken out.new) (O.faults out.old) (O.faults out.new) (joined parts.now) status result }
-    ensures later { O.faults out.old ≤ O.faults out.new }
-{
-    match write_pieces(out, parts) {
-        Ok(()) => status,
-        Err(_) => 4,
-    }
-}
+use eco_text::{Failed, Sink, TextFault, write_piece, write_pieces};
+use itoa::Buffer;
 
 /// A line that ends with a number.
-fn tell_number<O: Sink>(alloc: Global, head: &[u8], number: u64, status: u8, out: &mut O) -> u8
-    ensures tells { Tells (O.taken out.old) (O.taken out.new) (O.faults out.old) (O.faults out.new) ((head.now ++ decimal number) ++ 10 ∷ []) status result }
-    ensures later { O.faults out.old ≤ O.faults out.new }
+fn print_number<O: Sink>(head: &[u8], number: u64, out: &mut O) -> Result<(), Failed>
+    ensures { Writes O.taken O.faults out.old out.new result ((head.now ++ decimal number) ++ 10 ∷ []) }
 {
-    match format!(in alloc; "{number}") {
-        Ok(digits) => tell_line(&[head, digits.as_bytes(), b"\n"], status, out),
-        Err(_) => 6,
+    let mut buffer = Buffer::new();
+    let digits = buffer.format(number);
+    write_pieces(out, &[head, digits.as_bytes(), b"\n"])
+}
+
+fn print_done<O: Sink>(done: &Done, out: &mut O) -> Result<(), Failed>
+    ensures { Writes O.taken O.faults out.old out.new result (done_text done.now ++ 10 ∷ []) }
+{
+    match done {
+        Done::Written(length) => print_number(b"written ", *length, out),
     }
 }
 
-fn status(outcome: &Result<u64, Failure>) -> u8
+fn move_line(fault: MoveFault) -> &'static [u8]
+    ensures { result.now ≡ move_words fault ++ 10 ∷ [] }
+{
+    match fault {
+        MoveFault::UnknownComponent => b"eco: move UnknownComponent\n",
+        MoveFault::NotOnNet => b"eco: move NotOnNet\n",
+        MoveFault::UnknownNet => b"eco: move UnknownNet\n",
+        MoveFault::Memory => b"eco: memory\n",
+    }
+}
+
+fn section_word(section: Section) -> &'static [u8]
+    ensures { result.now ≡ section_words section }
+{
+    match section {
+        Section::Units => b"UNITS",
+        Section::Components => b"COMPONENTS",
+        Section::Nets => b"NETS",
+    }
+}
+
+/// A line of a name and a place.
+fn print_place<O: Sink>(head: &[u8], name: &[u8], place: u32, out: &mut O) -> Result<(), Failed>
+    ensures { Writes O.taken O.faults out.old out.new result ((head.now ++ name.now ++ decimal place) ++ 10 ∷ []) }
+{
+    let mut buffer = Buffer::new();
+    let digits = buffer.format(place);
+    write_pieces(out, &[head, name, digits.as_bytes(), b"\n"])
+}
+
+/// The line of a DEF's fault, behind what it begins with.
+fn print_def<O: Sink>(head: &[u8], fault: DefFault, out: &mut O) -> Result<(), Failed>
+    ensures { Writes O.taken O.faults out.old out.new result ((head.now ++ def_text fault) ++ 10 ∷ []) }
+{
+    match fault {
+        DefFault::Text(TextFault::OpenQuote { place }) => {
+            print_place(head, b"Text OpenQuote place=", place, out)
+        }
+        DefFault::UnknownHeading { place } => {
+            print_place(head, b"UnknownHeading place=", place, out)
+        }
+        DefFault::Unended { place } => print_place(head, b"Unended place=", place, out),
+        DefFault::BadStatement { place } => print_place(head, b"BadStatement place=", place, out),
+        DefFault::TwiceNamed { place } => print_place(head, b"TwiceNamed place=", place, out),
+        DefFault::MustJoin { place } => print_place(head, b"MustJoin place=", place, out),
+        DefFault::Limit { place } => print_place(head, b"Limit place=", place, out),
+        DefFault::Missing { which } => write_pieces(
+            out,
+            &[head, b"Missing which=", section_word(which), b"\n"],
+        ),
+        DefFault::Memory => write_pieces(out, &[head, b"memory\n"]),
+    }
+}
+
+fn print_refusal<O: Sink>(refusal: &Refusal, out: &mut O) -> Result<(), Failed>
+    ensures { Writes O.taken O.faults out.old out.new result (refusal_text refusal.now ++ 10 ∷ []) }
+{
+    match refusal {
+        Refusal::Def(fault) => print_def(b"eco: def ", *fault, out),
+        Refusal::Move(fault) => write_piece(move_line(*fault), out),
+    }
+}
+
+fn print_failure<O: Sink>(failure: &Failure, out: &mut O) -> Result<(), Failed>
+    ensures { Writes O.taken O.faults out.old out.new result (failure_text failure.now ++ 10 ∷ []) }
+{
+    match failure {
+        Failure::Words(place) => print_number(b"eco: words ", *place as u64, out),
+        Failure::TooLong(option) => {
+            write_pieces(out, &[b"eco: TooLong ", option.as_bytes(), b"\n"])
+        }
+        Failure::Refused(refusal) => print_refusal(refusal, out),
+        Failure::Read => write_piece(b"eco: read fault\n", out),
+        Failure::Write => write_piece(b"eco: write fault\n", out),
+        Failure::Memory => write_piece(b"eco: memory\n", out),
+    }
+}
+
+fn print<O: Sink>(outcome: &Result<Done, Failure>, out: &mut O) -> Result<(), Failed>
+    ensures { Writes O.taken O.faults out.old out.new result (line_of outcome.now) }
+{
+    match outcome {
+        Ok(done) => print_done(done, out),
+        Err(failure) => print_failure(failure, out),
+    }
+}
+
+fn status(outcome: &Result<Done, Failure>) -> u8
     ensures { result ≡ status_of outcome.now }
 {
     match outcome {
         Ok(_) => 0,
-        Err(Failure::TooLong | Failure::Def(_) | Failure::Move(_)) => 1,
+        Err(Failure::TooLong(_) | Failure::Refused(_)) => 1,
         Err(Failure::Words(_)) => 2,
         Err(Failure::Read) => 3,
         Err(Failure::Write) => 4,
@@ -99,40 +130,13 @@ fn status(outcome: &Result<u64, Failure>) -> u8
     }
 }
 
-fn number(outcome: &Result<u64, Failure>) -> Option<u64>
-    ensures { result ≡ number_of outcome.now }
-{
-    match outcome {
-        Ok(length) => Some(*length),
-        Err(Failure::Words(place)) => Some(*place as u64),
-        Err(Failure::Def(fault)) => place_of_fault(*fault),
-        Err(_) => None,
-    }
-}
-
-fn head(outcome: &Result<u64, Failure>) -> &'static [u8]
-    ensures { result.now ≡ head_of outcome.now }
-{
-    match outcome {
-        Ok(_) => b"written ",
-        Err(Failure::Words(_)) => b"eco: words ",
-        Err(Failure::TooLong) => b"eco: TooLong --def",
-        Err(Failure::Def(fault)) => refused_def(*fault),
-        Err(Failure::Move(fault)) => refused_move(*fault),
-        Err(Failure::Read) => b"eco: read fault",
-        Err(Failure::Write) => b"eco: write fault",
-        Err(Failure::Memory) => b"eco: memory",
-    }
-}
-
-/// Prints the line of an outcome, and gives its status.
-pub fn tell<O: Sink>(alloc: Global, outcome: &Result<u64, Failure>, out: &mut O) -> u8
+/// Prints what is told of an outcome, and gives its status, or 4 where it can't be printed.
+pub fn tell<O: Sink>(outcome: &Result<Done, Failure>, out: &mut O) -> u8
     ensures tells { Tells (O.taken out.old) (O.taken out.new) (O.faults out.old) (O.faults out.new) (line_of outcome.now) (status_of outcome.now) result }
     ensures later { O.faults out.old ≤ O.faults out.new }
 {
-    let status = status(outcome);
-    match number(outcome) {
-        Some(number) => tell_number(alloc, head(outcome), number, status, out),
-        None => tell_line(&[head(outcome), b"\n"], status, out),
+    match print(outcome, out) {
+        Ok(()) => status(outcome),
+        Err(_) => 4,
     }
 }

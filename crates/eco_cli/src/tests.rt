@@ -1,4 +1,10 @@
+use crate::apply_words::{apply_options, apply_words};
+use crate::command_line::first_bad;
+use crate::command_option::{CommandOption, OptionKind};
+use crate::failure::Failure;
+use crate::texts::read_texts;
 use crate::{MemoryHost, run};
+use eco_embed::Feed;
 use eco_text::{ByteSink, ByteSource};
 use std::alloc::Global;
 use std::process::Abort;
@@ -346,5 +352,144 @@ fn the_longest_def_and_one_byte_more(rt: HostRuntime) -> Result<(), Fail> {
     let longer = run_line(alloc, &line, &text, NONE)?;
     assert_eq!(rt; longer.status, 1);
     assert_eq!(rt; longer.printed.as_str(), "eco: TooLong --def\n");
+    Ok(())
+}
+
+static TWO_INPUTS: [CommandOption; 3] = [
+    CommandOption {
+        word: "--first",
+        kind: OptionKind::Input { limit: 4 },
+    },
+    CommandOption {
+        word: "--name",
+        kind: OptionKind::Text,
+    },
+    CommandOption {
+        word: "--second",
+        kind: OptionKind::Input { limit: 2 },
+    },
+];
+
+/// The texts of two inputs, one behind another, or the fault.
+fn read_two(alloc: Global, laid: &[(&str, &str)], line: &str) -> Result<String, Fail> {
+    let words = words_of(alloc, line)?;
+    let mut host = MemoryHost::new(alloc);
+    for (name, text) in laid {
+        let source = ByteSource::new(Vec::from_slice(alloc, text.as_bytes())?, Vec::new(alloc));
+        host.lay_source(name, source)?;
+    }
+    match read_texts(alloc, &mut host, &TWO_INPUTS, &words) {
+        Ok(texts) => {
+            let mut read = String::new(alloc);
+            for text in texts {
+                read.push_str(String::from_utf8(text)?.as_str())?;
+                read.push('.')?;
+            }
+            Ok(read)
+        }
+        Err(Failure::TooLong(option)) => Ok(format!(in alloc; "too long {option}")?),
+        Err(Failure::Read) => Ok(String::from_str(alloc, "read")?),
+        Err(_) => Ok(String::from_str(alloc, "other")?),
+    }
+}
+
+#[test]
+fn inputs_are_opened_in_the_order_of_the_table(rt: HostRuntime) -> Result<(), Fail> {
+    let both = [("a", "abcd"), ("b", "xy")];
+    let long = [("a", "abcde"), ("b", "xyz")];
+    let twice = [("a", "abcd"), ("a", "xy"), ("a", "z")];
+    let rows = [
+        (&both[..], "--first a --name n --second b", "abcd.xy."),
+        (&both[..], "--second b --first a --name n", "abcd.xy."),
+        (
+            &both[..],
+            "--first b --name n --second a",
+            "too long --second",
+        ),
+        (&both[..], "--first a --name n --second c", "read"),
+        (
+            &long[..],
+            "--first a --name n --second b",
+            "too long --first",
+        ),
+        (
+            &long[..],
+            "--first a --name n --second c",
+            "too long --first",
+        ),
+        (&long[..], "--first c --name n --second b", "read"),
+        (&long[..], "--first b --name n --second b", "read"),
+        (&twice[..], "--first a --name n --second a", "abcd.xy."),
+    ];
+    for (laid, line, wanted) in rows {
+        let read = read_two(rt.alloc(), laid, line)?;
+        assert_eq!(rt; read.as_str(), wanted);
+    }
+    Ok(())
+}
+
+const BEFORE_TABLE: &str = "--def d --functions f --high VDD --low VSS --spare SP_1";
+
+const BEHIND_PINS: &str = "--output m1 --comp u2 --pin A --from n1 --out o";
+
+fn apply_line(alloc: Global, values: &str) -> Result<Vec<String>, Fail> {
+    words_of(
+        alloc,
+        &format!(in alloc; "{BEFORE_TABLE} {values} {BEHIND_PINS}")?,
+    )
+}
+
+#[test]
+fn values_with_a_form(rt: HostRuntime) -> Result<(), Fail> {
+    let rows = [
+        ("--table 10 --inputs a --pins 1,i0", None),
+        ("--table 1 --inputs a,b --pins 0", None),
+        ("--table 1110 --inputs a,b --pins 0,1,i0,i1,i4,i5", None),
+        (
+            "--table 0000000000000000000000000000000000000000000000000000000000000001 --inputs a --pins i0",
+            None,
+        ),
+        ("--table 101 --inputs a --pins 1,i0", Some(11)),
+        ("--table 12 --inputs a --pins 1,i0", Some(11)),
+        ("--table 1,0 --inputs a --pins 1,i0", Some(11)),
+        ("--table 10 --inputs a,,b --pins 1,i0", Some(13)),
+        ("--table 10 --inputs ,a --pins 1,i0", Some(13)),
+        ("--table 10 --inputs a, --pins 1,i0", Some(13)),
+        ("--table 10 --inputs , --pins 1,i0", Some(13)),
+        ("--table 10 --inputs a --pins 1,i6", Some(15)),
+        ("--table 10 --inputs a --pins i", Some(15)),
+        ("--table 10 --inputs a --pins 01", Some(15)),
+        ("--table 10 --inputs a --pins 1,", Some(15)),
+        ("--table 10 --inputs a --pins 0,0,0,0,0,0,0", Some(15)),
+    ];
+    for (values, wanted) in rows {
+        let words = apply_line(rt.alloc(), values)?;
+        assert!(rt; first_bad(apply_options(), &words) == wanted);
+    }
+    Ok(())
+}
+
+#[test]
+fn the_words_of_apply(rt: HostRuntime) -> Result<(), Fail> {
+    let alloc = rt.alloc();
+    let words = apply_line(alloc, "--table 10 --inputs a,n2 --pins 1,i0")?;
+    let None = first_bad(apply_options(), &words) else {
+        assert!(rt; false);
+        return Ok(());
+    };
+    let asked = apply_words(alloc, &words)?;
+    assert_eq!(rt; asked.high, "VDD");
+    assert_eq!(rt; asked.low, "VSS");
+    assert_eq!(rt; asked.spare, "SP_1");
+    assert_eq!(rt; asked.table.inputs(), 1);
+    assert_eq!(rt; asked.table.bits(), 1);
+    assert_eq!(rt; asked.inputs.len(), 2);
+    assert_eq!(rt; asked.inputs[0], "a");
+    assert_eq!(rt; asked.inputs[1], "n2");
+    assert!(rt; matches!(asked.feeds.as_slice(), [Feed::One, Feed::Input(0)]));
+    assert_eq!(rt; asked.output, "m1");
+    assert_eq!(rt; asked.comp, "u2");
+    assert_eq!(rt; asked.pin, "A");
+    assert_eq!(rt; asked.from, "n1");
     Ok(())
 }

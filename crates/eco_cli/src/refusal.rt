@@ -1,0 +1,13 @@
+//! Why the texts of the inputs, or what is asked in them, are refused.
+
+use eco_base::MoveFault;
+use eco_def::DefFault;
+
+/// Why a command refuses what it read.
+#[derive(Debug, Drop)]
+pub enum Refusal {
+    /// The DEF has no design, and this is its first fault.
+    Def(DefFault),
+    /// The move is refused.
+    Move(MoveFault),
+}
