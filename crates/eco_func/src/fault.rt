@@ -32,14 +32,14 @@ pub enum FuncFault {
         master: Name,
         output: Name,
     },
-    /// At this place of its text an expression can't go on.
+    /// An expression can't go on at this place, in bytes from 0 of its text. At the end the place is the text's length.
     #[error("BadExpression master={master} output={output} place={place}")]
     BadExpression {
         master: Name,
         output: Name,
         place: u32,
     },
-    /// An expression names something that is no input.
+    /// An expression names something that is no input. The first such name is `input`.
     #[error("UnknownInput master={master} output={output} input={input}")]
     UnknownInput {
         master: Name,
@@ -51,6 +51,7 @@ pub enum FuncFault {
     TooManyMasters {
         count: usize,
     },
+    /// Want of memory.
     #[error("memory")]
     Memory,
 }
