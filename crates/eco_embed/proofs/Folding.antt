@@ -5,9 +5,10 @@ use Rattle.std.proofs.lemmas.List.{get_or-take}
 use Rattle.std.proofs.lemmas.Nat.{pow_pos}
 use Rattle.eco_func.specs.Tables.{TruthTable}
 use Rattle.eco_embed.specs.declared.feed.Feed.{Feed}
-use Rattle.eco_embed.specs.Feeds.{bit, feed_bit, fed_row}
+use Rattle.eco_embed.specs.Feeds.{feed_bit, fed_row}
+use Rattle.eco_func.specs.Tables.{bit}
 use Rattle.eco_embed.specs.Words.{value, Meets, IsFed}
-use Rattle.eco_embed.proofs.RowBits.{few_rows}
+use Rattle.eco_func.proofs.Powers.{few_rows}
 
 bit_most : (b : Bool) → cond b 1 0 ≤ 1
 bit_most true = omega arith

@@ -1,5 +1,3 @@
-pub mod Columns
-pub mod RowBits
 pub mod Folding
 pub mod Serving
 pub mod Searching

@@ -6,9 +6,10 @@ use Rattle.std.proofs.lemmas.Bool.Decides.{nat_tests}
 use Rattle.std.proofs.lemmas.Nat.{and_mask, pow_pos}
 use Rattle.std.proofs.lemmas.Nat.Bits.{bit_at_or, bit_at_not, bit_at-zero, bit_at-lt, bit_at_ones}
 use Rattle.eco_func.specs.Tables.{TruthTable}
-use Rattle.eco_embed.specs.Feeds.{bit}
+use Rattle.eco_func.specs.Tables.{bit}
 use Rattle.eco_embed.specs.Words.{Reaches}
-use Rattle.eco_embed.proofs.RowBits.{agree, few_rows}
+use Rattle.eco_func.proofs.RowBits.{agree}
+use Rattle.eco_func.proofs.Powers.{few_rows}
 
 -- a word below a place has this bit at a row
 abbrev pub Shown : List ℕ → ℕ → ℕ → Bool → Type 0

@@ -7,10 +7,11 @@ use Rattle.std.specs.List.{list_all}
 use Rattle.eco_func.specs.Tables.{TruthTable, at}
 use Rattle.eco_embed.specs.declared.feed.Feed.{Feed}
 use Rattle.eco_embed.specs.declared.feed.Feed.TheVariants.{Zero, One, Input}
-use Rattle.eco_embed.specs.Feeds.{bit, fed_row, is_among}
+use Rattle.eco_embed.specs.Feeds.{fed_row, is_among}
+use Rattle.eco_func.specs.Tables.{bit}
 use Rattle.eco_embed.specs.Embeddings.{Serves, ServesNone, FirstServing}
 use Rattle.eco_embed.specs.Words.{value, Meets, NoFeeds, FirstFeeds}
-use Rattle.eco_embed.proofs.RowBits.{few_rows}
+use Rattle.eco_func.proofs.Powers.{few_rows}
 use Rattle.eco_embed.proofs.Folding.{fed_row_below}
 
 -- the words of a table

@@ -5,11 +5,7 @@ use Rattle.std.specs.Cmp.Lexicographic.{slice_cmp}
 use Rattle.std.specs.Prelude.{◌≢◌, ℕ, ◌/◌, ◌%◌, ◌^◌, ◌+◌, ◌==◌, nat_lt, Bool, true, false, List, map, slice_index_or}
 use Rattle.eco_embed.specs.declared.feed.Feed.{Feed}
 use Rattle.eco_embed.specs.declared.feed.Feed.TheVariants.{Zero, One, Input}
-use Rattle.eco_func.specs.Tables.{row}
-
--- The value of input i at a row.
-abbrev pub bit : ℕ → ℕ → Bool
-bit r i = r / 2 ^ i % 2 == 1
+use Rattle.eco_func.specs.Tables.{row, bit}
 
 -- The value that a feed has at a row of the gate's inputs.
 abbrev pub feed_bit : ℕ → Feed → Bool

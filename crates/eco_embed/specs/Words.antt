@@ -3,7 +3,8 @@ use Rattle.std.specs.Prelude.{◌≡◌, ℕ, ◌+◌, ◌-◌, ◌*◌, ◌^◌
 use Rattle.std.specs.List.{list_all}
 use Rattle.eco_embed.specs.declared.feed.Feed.TheVariants.{Zero}
 use Rattle.eco_embed.specs.declared.feed.Feed.{Feed}
-use Rattle.eco_embed.specs.Feeds.{bit, feed_bit, fed_row, is_among, IsNoLaterFeed}
+use Rattle.eco_embed.specs.Feeds.{feed_bit, fed_row, is_among, IsNoLaterFeed}
+use Rattle.eco_func.specs.Tables.{bit}
 use Rattle.eco_func.specs.Tables.{TruthTable, at}
 
 -- The value at a row of the gate with these feeds on the pins.

@@ -1,12 +1,12 @@
 //! Functions of several pins, 64 rows of a gate at a time.
 
 ghost use Rattle.std.specs.Prelude.{◌≡◌, ◌<◌, ◌≤◌, ◌+◌, ◌-◌, ◌*◌, ◌^◌, ◌↔◌, ℕ, IsTrue, length, slice_index, if◌then◌else◌};
-ghost use Rattle.eco_func.specs.Tables.{at};
-ghost use Rattle.eco_embed.specs.Feeds.{bit, feed_bit, is_among};
+ghost use Rattle.eco_embed.specs.Feeds.{feed_bit, is_among};
+ghost use Rattle.eco_func.specs.Tables.{at, bit};
 ghost use Rattle.eco_embed.specs.Words.{IsFed};
 
 use crate::feed::Feed;
-use eco_func::Table;
+use eco_func::{Table, input_column, low_rows};
 
 /// The values of a feed at 64 rows: bit `r` is its value at row `r`.
 fn column(feed: Feed) -> u64
@@ -17,21 +17,6 @@ fn column(feed: Feed) -> u64
         Feed::Zero => 0,
         Feed::One => u64::MAX,
         Feed::Input(input) => input_column(input),
-    }
-}
-
-/// The values of an input at 64 rows.
-fn input_column(input: u8) -> u64
-    requires { input < 6 }
-    ensures { (r : ℕ) → r < 64 → bit result r ≡ bit r input }
-{
-    match input {
-        0 => 0xaaaa_aaaa_aaaa_aaaa,
-        1 => 0xcccc_cccc_cccc_cccc,
-        2 => 0xf0f0_f0f0_f0f0_f0f0,
-        3 => 0xff00_ff00_ff00_ff00,
-        4 => 0xffff_0000_ffff_0000,
-        _ => 0xffff_ffff_0000_0000,
     }
 }
 
@@ -70,14 +55,6 @@ pub fn agrees(want: &Table, word: u64) -> bool
     ensures { IsTrue result ↔ ((r : ℕ) → r < 2 ^ want.now.inputs → bit word r ≡ at want.now r) }
 {
     word & low_rows(want.inputs()) == want.bits()
-}
-
-/// The word with 1 at each row of so many inputs.
-pub fn low_rows(inputs: u8) -> u64
-    requires { inputs ≤ 6 }
-    ensures { result ≡ 2 ^ (2 ^ inputs) - 1 }
-{
-    u64::MAX >> (64 - (1u32 << inputs))
 }
 
 /// The word with one value at all rows.

@@ -22,7 +22,7 @@ before_each n (m ∷ ms) h (suc i) d lt = before_each n ms h.1 i d (omega arith)
 same_name : (a b : List ℕ) → slice_cmp nat_cmp a b ≡ Equal → bytes_eq a b ≡ true
 same_name a b e = sym (is_eq-slice_cmp a b) ∙ ap is_eq e
 
-other_name : (a b : List ℕ) → slice_cmp nat_cmp a b ≡ Less → bytes_eq a b ≡ false
+pub other_name : (a b : List ℕ) → slice_cmp nat_cmp a b ≡ Less → bytes_eq a b ≡ false
 other_name a b e = sym (is_eq-slice_cmp a b) ∙ ap is_eq e
 
 find_here : (name : List ℕ) (m : MasterTables) (ms : List MasterTables) → bytes_eq m.name name ≡ true → Some m ≡ find_master name (m ∷ ms)

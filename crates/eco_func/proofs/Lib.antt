@@ -1,8 +1,19 @@
+pub mod Columns
+pub mod RowBits
+pub mod WordBits
+pub mod Expressions
+pub mod Chains
+pub mod Places
 pub mod Powers
 pub mod BitText
 pub mod PinNames
 pub mod DocumentLemmas
 pub mod Finding
-pub mod ByName
 pub mod RowLaws
 pub mod RowSteps
+pub mod RowValues
+pub mod Differing
+pub mod Sound
+pub mod ByName
+pub mod Fits
+mod Examples

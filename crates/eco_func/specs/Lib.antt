@@ -1,3 +1,5 @@
 pub mod Tables
 pub mod Masters
+pub mod Expressions
+pub mod Parts
 pub mod FunctionsFile

@@ -11,6 +11,10 @@ pub record IsTable (inputs bits : ℕ) : Type 0 where
   pub few : inputs ≤ 6
   pub within : bits < 2 ^ (2 ^ inputs)
 
+-- Bit i of a number.
+abbrev pub bit : ℕ → ℕ → Bool
+bit n i = n / 2 ^ i % 2 == 1
+
 -- The value at a row.
 abbrev pub at : TruthTable → ℕ → Bool
 at t r = t.bits / 2 ^ r % 2 == 1

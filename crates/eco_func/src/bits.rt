@@ -24,6 +24,13 @@ fn bits_of(text: &[u8]) -> Option<u64>
     Some(bits)
 }
 
+/// Whether a text has only 0 and 1.
+pub fn has_only_bits(text: &[u8]) -> bool
+    ensures { result ≡ list_all is_bit text.now }
+{
+    text.iter().all(|byte| *byte == b'0' || *byte == b'1')
+}
+
 /// The table of a text with a character 0 or 1 for each row, row 0 first.
 pub fn read_table(inputs: u8, text: &[u8]) -> Option<Table>
     requires { inputs ≤ 6 }

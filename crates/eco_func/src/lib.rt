@@ -3,18 +3,25 @@
 //! The functions file is a TOML document with a table per master, in the profile of docs/FORMATS.md.
 #![tactic(auto)]
 
+ghost use Rattle.eco_func.specs.Expressions.{TablesAreValues};
 ghost use Rattle.eco_func.specs.FunctionsFile.{CharactersAreRows};
 ghost use Rattle.eco_func.specs.Tables.{RowsAreBits};
 
 mod bits;
+mod blame;
+mod differ;
 mod document;
+mod expression;
 mod fault;
 mod functions;
 mod master;
 mod memory;
 mod name;
+mod operator;
 mod output;
+mod part;
 mod read;
+mod rows;
 mod table;
 
 pub use crate::bits::read_table;
@@ -25,6 +32,7 @@ pub use crate::memory::Memory;
 pub use crate::name::Name;
 pub use crate::output::OutputFn;
 pub use crate::read::read_functions;
+pub use crate::rows::{input_column, low_rows};
 pub use crate::table::Table;
 
 /// A law of tables: bit `i` of the row of a list of bits is bit `i` of the list.
@@ -35,6 +43,11 @@ pub fn rows_are_bits()
 /// A law of texts: the character at each place of a table's text is the value at that row.
 pub fn characters_are_rows()
     ensures { CharactersAreRows }
+{}
+
+/// A law of expressions: the table of an expression has the expression's value at each row.
+pub fn tables_are_values()
+    ensures { TablesAreValues }
 {}
 
 #[cfg(test)]

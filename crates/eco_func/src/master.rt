@@ -50,6 +50,18 @@ impl MasterFn {
         }
     }
 
+    /// The master with these pins, which make one.
+    pub(crate) fn of(name: Name, inputs: Vec<Name>, outputs: Vec<OutputFn>) -> MasterFn
+        requires { IsTrue (is_master inputs.items outputs.items) }
+        ensures { result ≡ record { name = name; inputs = inputs.items; outputs = outputs.items } }
+    {
+        MasterFn {
+            name,
+            inputs,
+            outputs,
+        }
+    }
+
     /// The same master.
     pub fn copy(&self, alloc: Global) -> Result<MasterFn, Memory>
         ensures { IfOk result (λ m. m ≡ self.now) }

@@ -2,10 +2,11 @@
 
 use crate::memory::Memory;
 use std::alloc::Global;
+use std::fmt::{self, Display, Formatter, Write};
 use std::marker::Model;
 
 /// A name of a master, a pin, a net or a component, compared byte by byte.
-#[derive(Drop)]
+#[derive(Debug, Drop)]
 pub struct Name {
     bytes: Vec<u8>,
 }
@@ -50,5 +51,15 @@ impl Name {
         ensures { IfOk result (λ n. n ≡ self.now) }
     {
         Name::of(alloc, &self.bytes)
+    }
+}
+
+/// The name's text, or `?` where its bytes are no UTF-8.
+impl Display for Name {
+    fn fmt<W: Write>(&self, f: &mut Formatter<W>) -> fmt::Result {
+        match str::from_utf8(&self.bytes) {
+            Ok(text) => f.write_str(text),
+            Err(_) => f.write_str("?"),
+        }
     }
 }

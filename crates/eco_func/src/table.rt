@@ -3,6 +3,7 @@
 ghost use Rattle.std.specs.Prelude.{◌≡◌, ◌<◌, ◌≤◌, ◌^◌, ◌↔◌, IsTrue, length};
 ghost use Rattle.eco_func.specs.Tables.{row};
 
+use crate::rows::low_rows;
 use std::marker::Model;
 
 /// The value of a logic function at each row of its inputs.
@@ -28,8 +29,8 @@ impl Model for Table {
 }
 
 impl Table {
-    ghost use Rattle.std.specs.Prelude.{◌≡◌, ◌<◌, ◌≤◌, ◌^◌, length, MatchOption};
-    ghost use Rattle.eco_func.specs.Tables.{TruthTable, IsTable, at, look};
+    ghost use Rattle.std.specs.Prelude.{◌≡◌, ℕ, ◌<◌, ◌≤◌, ◌^◌, length, MatchOption};
+    ghost use Rattle.eco_func.specs.Tables.{TruthTable, IsTable, at, bit, look};
 
     /// The table with these inputs and bits.
     pub fn new(inputs: u8, bits: u64) -> Option<Table>
@@ -39,6 +40,19 @@ impl Table {
             Some(Table { inputs, bits })
         } else {
             None
+        }
+    }
+
+    /// The table with these inputs whose values are the word's first bits.
+    pub(crate) fn of_rows(inputs: u8, word: u64) -> Table
+        requires { inputs ≤ 6 }
+        ensures inputs { result.inputs ≡ inputs }
+        ensures values { (r : ℕ) → r < 2 ^ inputs → at result r ≡ bit word r }
+        ensures is_table { IsTable result.inputs result.bits }
+    {
+        Table {
+            inputs,
+            bits: word & low_rows(inputs),
         }
     }
 

@@ -1,6 +1,6 @@
 use Rattle.std.proofs.Common.{length, ◌∙◌, sym, arith}
 use Rattle.std.proofs.lemmas.List.{length-take-le}
-use Rattle.eco_embed.proofs.RowBits.{few_rows}
+use Rattle.eco_func.proofs.Powers.{few_rows}
 use Rattle.eco_embed.proofs.Folding.{half, longer, all_meet, meet_all}
 use Rattle.eco_embed.proofs.Serving.{first_among}
 use Rattle.eco_embed.proofs.fit.+computes.Goals as goal

@@ -4,7 +4,7 @@ use Rattle.std.proofs.lemmas.Nat.{one_shl}
 use Rattle.std.specs.List.{list_all}
 use Rattle.eco_embed.specs.Feeds.{is_among}
 use Rattle.eco_embed.specs.Words.{Meets}
-use Rattle.eco_embed.proofs.RowBits.{few_rows}
+use Rattle.eco_func.proofs.Powers.{few_rows}
 use Rattle.eco_embed.proofs.Serving.{serves, meets, all_among}
 use Rattle.eco_embed.proofs.fit.serve.Goals as goal
 

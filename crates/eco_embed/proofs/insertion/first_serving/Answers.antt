@@ -1,7 +1,7 @@
 use Rattle.std.proofs.Common.{◌^◌, ◌≤◌, ◌∙◌, ap, sym, subst, arith}
 use Rattle.std.proofs.lemmas.List.{length-take-le}
 use Rattle.std.proofs.lemmas.Nat.{one_shl}
-use Rattle.eco_embed.proofs.RowBits.{few_rows}
+use Rattle.eco_func.proofs.Powers.{few_rows}
 use Rattle.eco_embed.proofs.Serving.{of_table}
 use Rattle.eco_embed.proofs.insertion.first_serving.Goals as goal
 

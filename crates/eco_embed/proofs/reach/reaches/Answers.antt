@@ -1,6 +1,6 @@
 use Rattle.std.proofs.Common.{◌≡◌, ◌-◌, ◌^◌, ◌≤◌, ◌<◌, cond, get_or, IsTrue, nat_eq, length, bit_and, ◌∙◌, ap, sym, subst, arith, refl, ℕ}
 use Rattle.std.proofs.lemmas.Bool.Decides.{nat_tests}
-use Rattle.eco_embed.specs.Feeds.{bit}
+use Rattle.eco_func.specs.Tables.{bit}
 use Rattle.eco_embed.proofs.Reaching.{Seen, none_seen, seen_more, all_reached, each_reached}
 use Rattle.eco_embed.proofs.reach.reaches.Goals as goal
 

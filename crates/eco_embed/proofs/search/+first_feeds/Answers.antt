@@ -1,6 +1,6 @@
 use Rattle.std.proofs.Common.{◌≡◌, ◌+◌, ◌-◌, ◌/◌, ◌^◌, suc, length, take, ◌∙◌, ap, sym, subst, arith}
 use Rattle.std.proofs.lemmas.List.{length-take-le}
-use Rattle.eco_embed.proofs.RowBits.{few_rows}
+use Rattle.eco_func.proofs.Powers.{few_rows}
 use Rattle.eco_embed.proofs.Folding.{half}
 use Rattle.eco_embed.proofs.Searching.{Tried, tried_more, found, none_left, unreached}
 use Rattle.eco_embed.proofs.search.+first_feeds.Goals as goal

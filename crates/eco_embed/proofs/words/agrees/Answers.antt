@@ -1,8 +1,8 @@
 use Rattle.std.proofs.Common.{◌≡◌, ℕ, ◌-◌, ◌%◌, ◌^◌, ◌<◌, ◌↔◌, IsTrue, nat_eq, ◌∙◌, ap, sym, subst, arith, bit_and}
 use Rattle.std.proofs.lemmas.Bool.Decides.{nat_tests}
 use Rattle.std.proofs.lemmas.Nat.{and_mask}
-use Rattle.eco_embed.specs.Feeds.{bit}
-use Rattle.eco_embed.proofs.RowBits.{agree}
+use Rattle.eco_func.specs.Tables.{bit}
+use Rattle.eco_func.proofs.RowBits.{agree}
 use Rattle.eco_embed.proofs.words.agrees.Goals as goal
 
 -- the word's low bits, and the test of them

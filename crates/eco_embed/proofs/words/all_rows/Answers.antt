@@ -1,5 +1,5 @@
 use Rattle.std.proofs.Common.{◌∙◌, sym}
-use Rattle.eco_embed.proofs.Columns.{ones}
+use Rattle.eco_func.proofs.Columns.{ones}
 use Rattle.eco_embed.proofs.words.all_rows.Goals as goal
 
 pub returns-then-value : goal.returns-then-value

@@ -1,4 +1,4 @@
-use Rattle.eco_embed.proofs.RowBits.{mixed}
+use Rattle.eco_func.proofs.RowBits.{mixed}
 use Rattle.eco_embed.proofs.words.chosen.Goals as goal
 
 pub returns : goal.returns

@@ -1,6 +1,6 @@
 use Rattle.std.proofs.Common.{◌∙◌, ap, sym}
 use Rattle.eco_embed.specs.Feeds.{feed_bit}
-use Rattle.eco_embed.proofs.Columns.{ones}
+use Rattle.eco_func.proofs.Columns.{ones}
 use Rattle.eco_embed.proofs.words.column.Goals as goal
 
 pub returns-in-One : goal.returns-in-One

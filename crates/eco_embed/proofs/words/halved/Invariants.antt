@@ -1,5 +1,5 @@
 use Rattle.std.proofs.Common.{◌≡◌, ℕ, ◌+◌, ◌*◌, ◌<◌, if◌then◌else◌, length, get_or}
-use Rattle.eco_embed.specs.Feeds.{bit}
+use Rattle.eco_func.specs.Tables.{bit}
 use Rattle.eco_embed.proofs.words.halved.Given as goal
 
 abbrev pub invariant-loop-place : goal.invariant-loop-place

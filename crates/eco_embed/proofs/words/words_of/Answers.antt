@@ -1,6 +1,6 @@
 use Rattle.std.proofs.Common.{◌≢◌, ◌<◌, length, length-set, get_or-set_other, get_or-set_same, below_more, arith, ◌∙◌}
 use Rattle.std.proofs.lemmas.Nat.{one_shl}
-use Rattle.eco_embed.proofs.RowBits.{few_rows}
+use Rattle.eco_func.proofs.Powers.{few_rows}
 use Rattle.eco_embed.proofs.words.words_of.Goals as goal
 
 pub bounds-words-row : goal.bounds-words-row

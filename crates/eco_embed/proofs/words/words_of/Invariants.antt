@@ -1,6 +1,6 @@
 use Rattle.std.proofs.Common.{◌≡◌, ℕ, ◌<◌, length, get_or}
 use Rattle.eco_func.specs.Tables.{at}
-use Rattle.eco_embed.specs.Feeds.{bit}
+use Rattle.eco_func.specs.Tables.{bit}
 use Rattle.eco_embed.proofs.words.words_of.Given as goal
 
 abbrev pub invariant-loop-row : goal.invariant-loop-row

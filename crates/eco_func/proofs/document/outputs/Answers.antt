@@ -1,12 +1,19 @@
-use Rattle.std.proofs.Common.{◌∙◌}
-use Rattle.toml.specs.View.{table_view}
-use Rattle.eco_func.specs.FunctionsFile.{outputs_of}
-use Rattle.eco_func.proofs.DocumentLemmas.{outputs_step}
+use Rattle.std.proofs.Common.{◌++◌, ◌∷◌, [], string_bytes, ap, ◌∙◌, sym}
+use Rattle.toml.specs.View.{view, members_view}
+use Rattle.eco_func.specs.FunctionsFile.{output_of, outputs_of}
+use Rattle.eco_func.proofs.DocumentLemmas.{behind, step}
 use Rattle.eco_func.proofs.document.outputs.Goals as goal
 
 pub loop-pin-preserved : goal.loop-pin-preserved
 loop-pin-preserved c =
-    outputs_step c.args.inputs (outputs_of c.args.inputs (table_view c.args.pins.now)) c.loop-pin.found.items c.push.new.self.items
-    c.loop-pin.pin-iterator c.next.new.self c.in-Some.pin.now c.in-Some.value.now c.in_ok-of-in-Some-output_table.field-0 c.in-Some-output_table.table
-    c.in-Some.ensures.steps c.in_ok-push-in-Some-output_table.ensures.items (c.in_ok-of-in-Some-output_table.ensures ∙ c.as_bytes.ensures.value)
-    c.in-Some-output_table.ensures c.loop-pin.invariant
+    let master = c.args.master.now in
+    let inputs = c.args.inputs.now in
+    let done = c.loop-pin.found.items in
+    let pin = string_bytes c.in-Some.pin.now in
+    let value = view c.in-Some.value.now in
+    let table = c.in_ok-table.table in
+    let rest = outputs_of master inputs (members_view c.next.new.self) in
+    c.loop-pin.invariant ∙ ap (λ es. behind done (outputs_of master inputs (members_view es))) c.in-Some.ensures.steps
+    ∙ step done (output_of master pin inputs value) (λ t. record { pin = pin; table = t }) rest table (ap (λ p. output_of master p inputs value) (sym c.as_bytes.ensures.value) ∙ c.in_ok-table.ensures)
+    ∙ ap (λ p. behind (done ++ record { pin = p; table = table } ∷ []) rest) (sym (c.in_ok-pin.ensures ∙ c.as_bytes-in-loop-pin.ensures.value))
+    ∙ ap (λ all. behind all rest) (sym c.in_ok-push.ensures.items)

@@ -1,12 +1,15 @@
-use Rattle.std.proofs.Common.{◌∙◌, ap, sym}
-use Rattle.toml.specs.View.{table_view, view}
-use Rattle.eco_func.specs.FunctionsFile.{masters_of, master_of}
-use Rattle.eco_func.proofs.DocumentLemmas.{masters_step}
+use Rattle.std.proofs.Common.{string_bytes, ap, ◌∙◌, sym}
+use Rattle.toml.specs.View.{view, members_view}
+use Rattle.eco_func.specs.FunctionsFile.{master_of, masters_of}
+use Rattle.eco_func.proofs.DocumentLemmas.{behind, step}
 use Rattle.eco_func.proofs.document.read_masters.Goals as goal
 
 pub loop-name-preserved : goal.loop-name-preserved
 loop-name-preserved c =
-    let read = sym c.in-Some-2.is ∙ c.in_ok-master.ensures ∙ ap (λ n. master_of n (view c.in-Some.value.now)) c.as_str.ensures.value in
-    masters_step (masters_of (table_view c.args.document.now)) c.loop-name.masters.items c.push.new.self.items
-    c.loop-name.name-iterator c.next.new.self c.in-Some.name.now c.in-Some.value.now c.in-Some-2.master
-    c.in-Some.ensures.steps c.in_ok-push-in-Some-2.ensures.items read c.loop-name.invariant
+    let done = c.loop-name.masters.items in
+    let name = string_bytes c.in-Some.name.now in
+    let value = view c.in-Some.value.now in
+    let rest = masters_of (members_view c.next.new.self) in
+    c.loop-name.invariant ∙ ap (λ es. behind done (masters_of (members_view es))) c.in-Some.ensures.steps
+    ∙ step done (master_of name value) (λ m. m) rest c.in_ok-read_master.field-0 (ap (λ n. master_of n value) (sym c.as_str.ensures.value) ∙ c.in_ok-read_master.ensures)
+    ∙ ap (λ all. behind all rest) (sym c.in_ok-push.ensures.items)

@@ -1,27 +1,27 @@
-use Rattle.std.proofs.Common.{◌∙◌, Some, option_map, Vec, Global, sym, ap, arith}
+use Rattle.std.proofs.Common.{ap, ◌∙◌, sym, Ok, Vec, Global, arith}
+use Rattle.std.proofs.lemmas.Result.{err_from_is_err_and}
 use Rattle.toml.specs.View.{table_view}
 use Rattle.eco_func.specs.declared.master.MasterFn.{MasterFn}
-use Rattle.eco_func.proofs.ByName.{by_name, no_more, too_many, gives_none}
+use Rattle.eco_func.proofs.ByName.{by_name, no_more, too_many, reads_fault}
 use Rattle.eco_func.proofs.read.read_functions.Goals as goal
 
-pub returns-then-len-gt-MOST_MASTERS-clause-not_yet : goal.returns-then-len-gt-MOST_MASTERS-clause-not_yet
-returns-then-len-gt-MOST_MASTERS-clause-not_yet c =
-    let document = c.in-Ok.document in
-    λ _. gives_none c.args.text.now (table_view document) c.in-Ok.ensures.ok.1 (too_many document.entries (omega (arith, c.if-len-gt-MOST_MASTERS.true, c.len.ensures.len)))
+pub returns-then-count-gt-MOST_MASTERS : goal.returns-then-count-gt-MOST_MASTERS
+returns-then-count-gt-MOST_MASTERS c =
+    (table_view c.in-Ok.document, c.in-Ok.ensures.ok.0, c.in-Ok.ensures.ok.1, too_many c.in-Ok.document.entries c.len-count.result c.len-count.ensures.len c.if-count-gt-MOST_MASTERS.true)
+
+pub returns-in_err-masters : goal.returns-in_err-masters
+returns-in_err-masters c =
+    let p = err_from_is_err_and c.from_residual.result c.from_residual.ensures.1 in
+    rw (p.1, p.2) (reads_fault (λ (masters : Vec MasterFn Global). masters.items) c.args.text.now c.in-Ok.document.entries c.in-Ok.ensures.ok.0 c.in-Ok.ensures.ok.1
+    (omega (arith, c.if-count-gt-MOST_MASTERS.false, c.len-count.ensures.len)) c.in_err-masters.field-0.0 c.in_err-masters.ensures)
 
 pub of-requires : goal.of-requires
-of-requires c =
-    by_name c.in-Ok.document.entries c.in-Some.masters.items c.len.ensures.ordered
-    (sym c.in_ok-masters.ensures ∙ ap (option_map (λ (masters : Vec MasterFn Global). masters.items)) c.in-Some.is)
+of-requires c = by_name c.in-Ok.document.entries c.in_ok-masters.masters.items c.len-count.ensures.ordered c.in_ok-masters.ensures
 
-pub returns-in-Some-clause-read : goal.returns-in-Some-clause-read
-returns-in-Some-clause-read c =
-    let entries = c.in-Ok.document.entries in
-    record {
-      document = table_view c.in-Ok.document;
-      utf8 = c.in-Ok.ensures.ok.0;
-      written = c.in-Ok.ensures.ok.1;
-      reads =
-          no_more entries (omega (arith, c.if-len-gt-MOST_MASTERS.false, c.len.ensures.len))
-          ∙ sym c.in_ok-masters.ensures ∙ ap (option_map (λ (masters : Vec MasterFn Global). masters.items)) c.in-Some.is ∙ ap Some (sym c.of.ensures);
-    }
+pub returns : goal.returns
+returns c = (
+  table_view c.in-Ok.document,
+  c.in-Ok.ensures.ok.0,
+  c.in-Ok.ensures.ok.1,
+  no_more c.in-Ok.document.entries (omega (arith, c.if-count-gt-MOST_MASTERS.false, c.len-count.ensures.len)) ∙ c.in_ok-masters.ensures ∙ ap Ok (sym c.of.ensures),
+)

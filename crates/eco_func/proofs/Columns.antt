@@ -1,7 +1,7 @@
 -- The values of each input at 64 rows.
 use Rattle.std.proofs.Common.{◌≡◌, ℕ, zero, suc, ◌<◌, Bool, true, false, not, ◌&&◌, refl, ap, ◌∙◌, sym, arith, ⊎_elim}
 use Rattle.std.proofs.lemmas.Bool.{and_parts, cases_lt}
-use Rattle.eco_embed.specs.Feeds.{bit}
+use Rattle.eco_func.specs.Tables.{bit}
 
 same : Bool → Bool → Bool
 same true b = b

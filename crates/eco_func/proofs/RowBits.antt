@@ -1,10 +1,9 @@
 -- Bits of words.
-use Rattle.std.proofs.Common.{◌≡◌, ℕ, zero, suc, ◌+◌, ◌-◌, ◌*◌, ◌/◌, ◌%◌, ◌^◌, ◌<◌, ◌≤◌, ◌==◌, min, cond, ◌↔◌, refl, ap, ◌∙◌, sym, arith, bit_and, bit_xor}
+use Rattle.std.proofs.Common.{◌≡◌, ℕ, zero, suc, ◌+◌, ◌-◌, ◌/◌, ◌%◌, ◌^◌, ◌<◌, ◌≤◌, ◌==◌, min, cond, ◌↔◌, refl, ap, ◌∙◌, sym, arith, bit_and, bit_xor}
 use Rattle.std.specs.Int.{bit_at}
-use Rattle.std.proofs.Math.Nat.{pow-le-pow_right}
-use Rattle.std.proofs.lemmas.Nat.{one_shl, and_mask, shr_split}
+use Rattle.std.proofs.lemmas.Nat.{and_mask, shr_split}
 use Rattle.std.proofs.lemmas.Nat.Bits.{bit_at_and, bit_at_xor, bit_at-lt, bit_at_cat_low, same_from_bits_below, ones_shr}
-use Rattle.eco_embed.specs.Feeds.{bit}
+use Rattle.eco_func.specs.Tables.{bit}
 
 -- a bit is 0 or 1
 pub two : (P : ℕ → Type 0) → P 0 → P 1 → (x : ℕ) → x < 2 → P x
@@ -41,13 +40,7 @@ mixed z c o r =
 
 -- ---- the low bits
 
-pub few_rows : (i : ℕ) → i ≤ 6 → 2 ^ i ≤ 64
-few_rows i h = pow-le-pow_right {n = 2} (omega arith) {i = i} {j = 6} h
-
-pub rows_shifted : (i : ℕ) → i ≤ 6 → 1 * 2 ^ i % 4294967296 ≡ 2 ^ i
-rows_shifted i h = one_shl i 32 (omega arith)
-
-low_bit : (w k r : ℕ) → r < k → bit_at (w % 2 ^ k) r ≡ bit_at w r
+pub low_bit : (w k r : ℕ) → r < k → bit_at (w % 2 ^ k) r ≡ bit_at w r
 low_bit w k r h = sym (bit_at_cat_low (w / 2 ^ k) k (w % 2 ^ k) r h) ∙ ap (λ n. bit_at n r) (shr_split w k)
 
 -- a word's low bits are a number's bits

@@ -1,7 +1,7 @@
 use Rattle.std.proofs.Common.{◌≡◌, ◌-◌, ◌^◌, ◌/◌, ◌∙◌, ap, arith}
 use Rattle.std.proofs.lemmas.Nat.Bits.{ones_shr}
-use Rattle.eco_embed.proofs.RowBits.{few_rows, rows_shifted}
-use Rattle.eco_embed.proofs.words.low_rows.Goals as goal
+use Rattle.eco_func.proofs.Powers.{few_rows, rows_shifted}
+use Rattle.eco_func.proofs.rows.low_rows.Goals as goal
 
 pub overflow_sub-result : goal.overflow_sub-result
 overflow_sub-result c = omega (arith, few_rows c.args.inputs c.requires, rows_shifted c.args.inputs c.requires)

@@ -1,7 +1,7 @@
 use Rattle.std.proofs.Common.{◌≡◌, ◌∙◌, ap, sym, arith}
-use Rattle.eco_embed.specs.Feeds.{bit}
-use Rattle.eco_embed.proofs.Columns.{column_0, column_1, column_2, column_3, column_4, column_5}
-use Rattle.eco_embed.proofs.words.input_column.Goals as goal
+use Rattle.eco_func.specs.Tables.{bit}
+use Rattle.eco_func.proofs.Columns.{column_0, column_1, column_2, column_3, column_4, column_5}
+use Rattle.eco_func.proofs.rows.input_column.Goals as goal
 
 pub returns-in-0 : goal.returns-in-0
 returns-in-0 c = λ r h. column_0 r h ∙ ap (bit r) (sym c.in-0.is)

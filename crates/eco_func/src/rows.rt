@@ -1,0 +1,27 @@
+//! The values at all rows of a table, a bit for each.
+
+ghost use Rattle.std.specs.Prelude.{◌≡◌, ◌<◌, ◌≤◌, ◌-◌, ◌^◌, ℕ};
+ghost use Rattle.eco_func.specs.Tables.{bit};
+
+/// The values of an input at 64 rows.
+pub fn input_column(input: u8) -> u64
+    requires { input < 6 }
+    ensures { (r : ℕ) → r < 64 → bit result r ≡ bit r input }
+{
+    match input {
+        0 => 0xaaaa_aaaa_aaaa_aaaa,
+        1 => 0xcccc_cccc_cccc_cccc,
+        2 => 0xf0f0_f0f0_f0f0_f0f0,
+        3 => 0xff00_ff00_ff00_ff00,
+        4 => 0xffff_0000_ffff_0000,
+        _ => 0xffff_ffff_0000_0000,
+    }
+}
+
+/// The word with 1 at each row of so many inputs.
+pub fn low_rows(inputs: u8) -> u64
+    requires { inputs ≤ 6 }
+    ensures { result ≡ 2 ^ (2 ^ inputs) - 1 }
+{
+    u64::MAX >> (64 - (1u32 << inputs))
+}
