@@ -8,5 +8,9 @@ pub mod Choices
 pub mod Walks
 pub mod Depths
 pub mod Lists
+pub mod Indexed
+pub mod Places
+pub mod MasterPins
+pub mod Added
 mod Examples
 mod Loops

@@ -6,3 +6,6 @@ pub mod Valuation
 pub mod Walks
 pub mod Depth
 pub mod Laws
+pub mod Index
+pub mod Listing
+pub mod Kept
