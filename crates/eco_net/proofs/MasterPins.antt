@@ -95,11 +95,14 @@ parts ins outs h =
       differ = second_so (a && b && c && d) _ h;
     }
 
+pub gate_length : (m : MasterTables) → length (pins_of (kind_of (GivenGate m))) ≡ length m.inputs + length m.outputs
+gate_length m =
+    sym (length-map (pins_of (kind_of (GivenGate m))) (λ p. p.0)) ∙ ap length (gate_names m) ∙ length-append m.inputs (map (λ o. o.pin) m.outputs) ∙ ap (λ n. length m.inputs + n) (length-map m.outputs (λ o. o.pin))
+
 pub gate_is_kind : (m : MasterTables) → IsTrue (is_master m.inputs m.outputs) → IsKind (kind_of (GivenGate m))
 gate_is_kind m h =
     let p = parts m.inputs m.outputs h in
-    let l : length (pins_of (kind_of (GivenGate m))) ≡ length m.inputs + length m.outputs =
-    sym (length-map (pins_of (kind_of (GivenGate m))) (λ p. p.0)) ∙ ap length (gate_names m) ∙ length-append m.inputs (map (λ o. o.pin) m.outputs) ∙ ap (λ n. length m.inputs + n) (length-map m.outputs (λ o. o.pin)) in
+    let l = gate_length m in
     record {
       apart = λ i j n e f. apart_differ (master_pins m.inputs m.outputs) p.differ i j n (ap (λ ns. slice_get ns i) (sym (gate_names m)) ∙ e) (ap (λ ns. slice_get ns j) (sym (gate_names m)) ∙ f);
       few = omega (arith, p.inputs, p.outputs, l);
@@ -110,10 +113,12 @@ box_names : (ps : List BoxPin) → map (λ p. p.0) (map {B = Name × Role} (λ p
 box_names [] = refl
 box_names (p ∷ ps) = ap (λ xs. p.name ∷ xs) (box_names ps)
 
+pub box_length : (ps : List BoxPin) → length (pins_of (kind_of (GivenBox ps))) ≡ length ps
+box_length ps = sym (length-map (pins_of (kind_of (GivenBox ps))) (λ p. p.0)) ∙ ap length (box_names ps) ∙ length-map ps (λ p. p.name)
+
 pub box_is_kind : (ps : List BoxPin) → IsDistinct (eq_by_cmp name_cmp) (map (λ p. p.name) ps) → length ps < 2 ^ 32 → IsKind (kind_of (GivenBox ps))
 box_is_kind ps d h =
-    let l : length (pins_of (kind_of (GivenBox ps))) ≡ length ps =
-    sym (length-map (pins_of (kind_of (GivenBox ps))) (λ p. p.0)) ∙ ap length (box_names ps) ∙ length-map ps (λ p. p.name) in
+    let l = box_length ps in
     record {
       apart = λ i j n e f. apart_distinct (map (λ p. p.name) ps) d i j n (ap (λ ns. slice_get ns i) (sym (box_names ps)) ∙ e) (ap (λ ns. slice_get ns j) (sym (box_names ps)) ∙ f);
       few = omega (arith, h, l);

@@ -1,6 +1,6 @@
 -- Rows by place and by name
 use Rattle.std.proofs.Common.{◌≡◌, ◌≢◌, ℕ, zero, suc, ◌<◌, true, false, cond, List, [], ◌∷◌, ◌++◌, map, length, Option, Some, None, refl, sym, ap, ◌∙◌, arith, slice_get, inl, inr, ⊎_elim, ◌⊎◌}
-use Rattle.std.specs.Option.{option_map}
+use Rattle.std.specs.Option.{option_map, MatchOption}
 use Rattle.std.specs.Ordering.{eq_by_cmp}
 use Rattle.std.specs.List.{IsDistinct, AllByRecursion}
 use Rattle.std.proofs.lemmas.Option.{slice_get-map}
@@ -85,6 +85,20 @@ module _ {R X : Type 0} (name : R → Name) (f : R → X) where
           (λ h. not_None (find_first (entry r) (map entry rows) q h e))
           (λ n. elim i as (λ j. slice_get (map name (r ∷ rows)) j ≡ Some q → ⊥) [ zero ↦ (λ z. n (sym (same_Some z))) | suc j ↦ (λ z. go rows j (find_rest (entry r) (map entry rows) q n e) z) ] s)
           (same_name q (name r))
+
+  -- a name's place in an index is that of a row, and no row has a name that the index hasn't
+  pub number_found : (rows : List R) (places : FinMap name_cmp ℕ) (q : Name) → IsIndexOf (map name rows) places → MatchOption (get places q) (get (from_entries {R = name_cmp} (map entry rows)) q ≡ None) (λ i. slice_get (map name rows) i ≡ Some q)
+  number_found rows places q index = go (get places q) refl
+    where
+      none : get places q ≡ None → (o : Option X) → get (from_entries {R = name_cmp} (map entry rows)) q ≡ o → get (from_entries {R = name_cmp} (map entry rows)) q ≡ None
+      none e None f = f
+      none e (Some x) f =
+          let w = row_found rows q x f in
+          absurd (not_None (sym ((index q w.0).0 (name_of_row name rows w.0 w.1 w.2 ∙ ap Some w.3)) ∙ e))
+
+      go : (o : Option ℕ) → get places q ≡ o → MatchOption o (get (from_entries {R = name_cmp} (map entry rows)) q ≡ None) (λ i. slice_get (map name rows) i ≡ Some q)
+      go None e = none e (get (from_entries {R = name_cmp} (map entry rows)) q) refl
+      go (Some i) e = (index q i).1 e
 
 -- ---- distinct names
 

@@ -1,10 +1,12 @@
 -- What the type of a listing keeps.
-use Rattle.std.specs.Prelude.{◌≡◌, ℕ, ◌<◌, ◌≤◌, ◌^◌, ◌↔◌, List, map, length, Some, slice_get, is_some}
+use Rattle.std.specs.Prelude.{◌≡◌, ℕ, ◌<◌, ◌≤◌, ◌^◌, ◌↔◌, List, map, length, Option, Some, slice_get, is_some}
 use Rattle.std.specs.List.{list_any}
 use Rattle.std.specs.Ordering.{eq_by_cmp}
 use Rattle.std.specs.FinMap.{FinMap, get}
 use Rattle.eco_net.specs.declared.rows.CompRow.{CompRow}
 use Rattle.eco_net.specs.declared.rows.TopRow.{TopRow}
+use Rattle.eco_net.specs.declared.ids.PinRef.{PinRef}
+use Rattle.eco_net.specs.ByNumber.{by_net, all_pins, drivers}
 use Rattle.eco_net.specs.Netlist.{Name, name_cmp, Kind, pins_of, HasRows}
 use Rattle.eco_net.specs.Listing.{Listing, AreApart, kind_of, pins}
 
@@ -41,3 +43,9 @@ pub record IsIndexed (L : Listing) (of_nets of_comps of_reserved : FinMap name_c
   pub nets : IsIndexOf (map (λ r. r.name) L.nets) of_nets
   pub comps : IsIndexOf (map (λ r. r.name) L.comps) of_comps
   pub reserved : (q : Name) → is_some (get of_reserved q) ≡ list_any (eq_by_cmp name_cmp q) L.reserved
+
+-- what a finished netlist keeps: the pins of each net in order, and its driver
+pub record IsFinished (L : Listing) (on : List (List PinRef)) (found : List (Option PinRef)) : Type 0 where
+  pub listing : IsListing L
+  pub on_net : on ≡ by_net L (all_pins L)
+  pub driver : found ≡ drivers L

@@ -8,4 +8,7 @@ pub mod Depth
 pub mod Laws
 pub mod Index
 pub mod Listing
+pub mod PinOrder
+pub mod ByNumber
 pub mod Kept
+pub mod Pins

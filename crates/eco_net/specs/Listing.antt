@@ -1,6 +1,6 @@
 -- A netlist as it was listed: its nets, components and top pins in the order in which they were added, which numbers them.
 use Rattle.std.specs.Prelude.{◌≡◌, ℕ, zero, suc, ◌<◌, ◌^◌, Bool, true, List, [], ◌∷◌, map, length, Option, Some, None, slice_get, slice_set}
-use Rattle.std.specs.List.{filter, IsDistinct, range_with_len}
+use Rattle.std.specs.List.{filter, Contains, IsDistinct, range_with_len}
 use Rattle.std.specs.Option.{option_map, unwrap_or}
 use Rattle.std.specs.Ordering.{eq_by_cmp}
 use Rattle.std.specs.FinMap.{from_entries}
@@ -8,12 +8,14 @@ use Rattle.std.specs.FinSet.{from_list}
 use Rattle.eco_func.specs.Tables.{TruthTable, at}
 use Rattle.eco_net.specs.declared.kind.Kind.{Kind as Given}
 use Rattle.eco_net.specs.declared.kind.Kind.TheVariants.{Gate as GivenGate, Boxed as GivenBox}
+use Rattle.eco_net.specs.declared.kind.PinUse.{PinUse}
+use Rattle.eco_net.specs.declared.kind.PinUse.TheVariants.{Reads as UseReads, Computes as UseComputes, Outside as UseOutside}
 use Rattle.eco_net.specs.declared.rows.NetRow.{NetRow}
 use Rattle.eco_net.specs.declared.rows.CompRow.{CompRow}
 use Rattle.eco_net.specs.declared.rows.TopRow.{TopRow}
 use Rattle.eco_net.specs.declared.ids.PinRef.{PinRef}
 use Rattle.eco_net.specs.declared.ids.PinRef.TheVariants.{Top as TopNumber, Pin as PinNumber}
-use Rattle.eco_net.specs.Netlist.{Name, name_cmp, Kind, Gate, Boxed, Netlist, Component, Top, Pin, TopPin, CompPin, Role, pins_of}
+use Rattle.eco_net.specs.Netlist.{Name, name_cmp, Kind, Gate, Boxed, Netlist, Component, Top, Pin, TopPin, CompPin, Role, Reads, Computes, Outside, pins_of}
 
 pub record Listing : Type 0 where
   pub nets : List NetRow
@@ -30,6 +32,12 @@ bits_of t = map (at t) (range_with_len 0 (2 ^ t.inputs))
 abbrev pub kind_of : Given → Kind
 kind_of (GivenGate m) = Gate m.inputs (map (λ o. (o.pin, bits_of o.table)) m.outputs)
 kind_of (GivenBox pins) = Boxed (map (λ p. (p.name, p.dir)) pins)
+
+-- what a pin is for, its table by its bits
+abbrev pub role_of_use : PinUse → Role
+role_of_use UseReads = Reads
+role_of_use (UseComputes t) = Computes (bits_of t)
+role_of_use (UseOutside d) = Outside d
 
 -- a component's pins by number
 abbrev pub pins : CompRow → List (Name × Role)
@@ -82,6 +90,11 @@ abbrev pub pin_named : Listing → PinRef → Pin
 pin_named L (TopNumber t) = TopPin (unwrap_or (option_map (λ r. r.name) (slice_get L.tops t.0)) [])
 pin_named L (PinNumber c k) = pin_at (slice_get L.comps c.0) k
 
+-- a pin by the name of its component, or none for a top pin
+abbrev pub pin_by : Option Name → Name → Pin
+pin_by None n = TopPin n
+pin_by (Some c) n = CompPin c n
+
 abbrev pub HasPin : Option CompRow → ℕ → Type 0
 HasPin None k = ⊥
 HasPin (Some r) k = k < length (pins r)
@@ -113,3 +126,13 @@ abbrev pub with_tie : List NetRow → ℕ → List NetRow
 with_tie [] n = []
 with_tie (r ∷ rows) zero = record r { tie = true } ∷ rows
 with_tie (r ∷ rows) (suc n) = r ∷ with_tie rows n
+
+-- where a name stands in a list
+abbrev pub FindsName : List Name → Name → Option ℕ → Type 0
+FindsName names q None = Contains names q → ⊥
+FindsName names q (Some k) = slice_get names k ≡ Some q
+
+-- the pin of a name among those of a component
+abbrev pub FindsPin : Option CompRow → Name → Option ℕ → Type 0
+FindsPin None q o = ⊥
+FindsPin (Some r) q o = FindsName (map (λ p. p.0) (pins r)) q o
