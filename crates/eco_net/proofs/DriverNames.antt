@@ -1,6 +1,6 @@
 -- The driver of a net by number, and its one driving pin by name
 use Rattle.std.proofs.Common.{◌≡◌, ℕ, ◌<◌, Bool, true, false, cond, List, [], ◌∷◌, length, Option, Some, None, refl, sym, ap, ◌∙◌, subst, inl, inr, ⊎_elim, Less, Equal}
-use Rattle.std.specs.Option.{option_map}
+use Rattle.std.specs.Option.{option_map, IfSome}
 use Rattle.std.specs.List.{filter}
 use Rattle.std.specs.List.Sorted.{IsStrictlySortedBy}
 use Rattle.std.proofs.lemmas.List.Kept.{IsStrictlySortedBy-filter}
@@ -108,3 +108,12 @@ module _ (L : Listing) (is : IsListing L) where
   pub driver_is : (n : ℕ) (o : Option PinRef) → n < length L.nets → driver_at L n ≡ o → DriverIs L (net_name L.nets n) o
   driver_is n None h e = no_driver_named n h e
   driver_is n (Some p) h e = driver_named n p h e
+
+  pub driver_known : (n : ℕ) (o : Option PinRef) → n < length L.nets → driver_at L n ≡ o → IfSome o (IsKnownPin L)
+  driver_known n None h e = tt
+  driver_known n (Some p) h e = (driver_named n p h e).0
+
+  pub driver_drives : (n : ℕ) (p : PinRef) → driver_at L n ≡ Some p → drives L p ≡ true
+  driver_drives n p e =
+      let only : driving n ≡ p ∷ [] = sole_is (driving n) p e in
+      (both (drives L p) (net_at L p) n (driving_has n p (subst (λ xs. Has xs p) (sym only) (inl refl))).1).0

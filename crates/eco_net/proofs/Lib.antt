@@ -18,5 +18,6 @@ pub mod AllPins
 pub mod DriverNames
 pub mod ByNets
 pub mod KindPins
+pub mod GateNames
 mod Examples
 mod Loops

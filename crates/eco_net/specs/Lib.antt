@@ -12,3 +12,4 @@ pub mod PinOrder
 pub mod ByNumber
 pub mod Kept
 pub mod Pins
+pub mod Gates

@@ -4,6 +4,7 @@
 //! added. The specifications speak of names; a listing says which name each number has.
 #![tactic(auto)]
 
+mod gates;
 mod ids;
 mod index;
 mod joints;
