@@ -98,7 +98,7 @@ no_outside e = cc
 no_outside_out : {t : List Bool} {d : Dir} → Computes t ≡ Outside d → ⊥
 no_outside_out e = cc
 
-gate_inside : (m : MasterTables) (p : Name × Role) → Has (pins_of (kind_of (Gate m))) p → (d : Dir) → p.1 ≡ Outside d → ⊥
+pub gate_inside : (m : MasterTables) (p : Name × Role) → Has (pins_of (kind_of (Gate m))) p → (d : Dir) → p.1 ≡ Outside d → ⊥
 gate_inside m p h d e = ⊎_elim
     (λ i. let w = has_of_map {B = Name × Role} (λ p. (p, Read)) m.inputs p i in no_outside (ap (λ (x : Name × Role). x.1) w.2 ∙ e))
     (λ i. let w = has_of_map {B = Name × Role} (λ o. (o.0, Computes o.1)) _ p i in no_outside_out (ap (λ (x : Name × Role). x.1) w.2 ∙ e))
@@ -107,7 +107,7 @@ gate_inside m p h d e = ⊎_elim
 not_computing : {t : List Bool} {d : Dir} → Outside d ≡ Computes t → ⊥
 not_computing e = cc
 
-box_outside : (ps : List BoxPin) (p : Name × Role) → Has (pins_of (kind_of (Boxed ps))) p → (t : List Bool) → p.1 ≡ Computes t → ⊥
+pub box_outside : (ps : List BoxPin) (p : Name × Role) → Has (pins_of (kind_of (Boxed ps))) p → (t : List Bool) → p.1 ≡ Computes t → ⊥
 box_outside ps p h t e = let w = has_of_map {B = Name × Role} (λ p. (p.0, Outside p.1)) _ p h in not_computing (ap (λ (x : Name × Role). x.1) w.2 ∙ e)
 
 pub has_at : {A : Type 0} (xs : List A) (i : ℕ) (x : A) → slice_get xs i ≡ Some x → Has xs x

@@ -19,5 +19,10 @@ pub mod DriverNames
 pub mod ByNets
 pub mod KindPins
 pub mod GateNames
+pub mod InputPins
+pub mod Searching
+pub mod SearchPaths
+pub mod Orders
+pub mod Rotated
 mod Examples
 mod Loops

@@ -13,3 +13,7 @@ pub mod ByNumber
 pub mod Kept
 pub mod Pins
 pub mod Gates
+pub mod Among
+pub mod Search
+pub mod LevelsOf
+pub mod Rings

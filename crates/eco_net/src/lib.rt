@@ -10,17 +10,21 @@ mod index;
 mod joints;
 mod kind;
 mod laws;
+mod levels;
 mod maker;
 mod netlist;
 mod pins;
 mod reading;
 mod rows;
+mod search;
+mod walk;
 
 pub use crate::ids::{CompId, Counts, NetId, PinRef, TopId};
 pub use crate::kind::{BoxPin, BoxPins, Kind};
 pub use crate::laws::{
     closed_walk_shows, each_choice, each_net, one_cut_key, one_depth, one_valuation, ranks_show,
 };
+pub use crate::levels::{Levels, LoopFault, Names};
 pub use crate::maker::NetlistMaker;
 pub use crate::netlist::{Netlist, PinName};
 pub use crate::rows::{CompRow, NetRow, TopRow};
