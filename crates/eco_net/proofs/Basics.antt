@@ -7,13 +7,9 @@ use Rattle.std.specs.Cmp.Lexicographic.{nat_list_cmp_total}
 use Rattle.std.specs.FinMap.{FinMap, get, insert, entries, find, get-insert, get-entries, keys}
 use Rattle.std.proofs.lemmas.Map.Lookups.{exact_bytes}
 use Rattle.eco_net.specs.Netlist.{Name, name_cmp}
+pub use Rattle.eco_net.specs.Among.{Has}
 
 -- ---- lists
-
--- x stands in the list
-abbrev pub Has : {A : Type 0} → List A → A → Type 0
-Has [] x = ⊥
-Has (y ∷ ys) x = (y ≡ x) ⊎ Has ys x
 
 pub contains_from_has : {A : Type 0} (xs : List A) (x : A) → Has xs x → Contains xs x
 contains_from_has [] x h = absurd h

@@ -6,3 +6,14 @@ pub mod Valuation
 pub mod Walks
 pub mod Depth
 pub mod Laws
+pub mod Index
+pub mod Listing
+pub mod PinOrder
+pub mod ByNumber
+pub mod Kept
+pub mod Pins
+pub mod Gates
+pub mod Among
+pub mod Search
+pub mod LevelsOf
+pub mod Rings

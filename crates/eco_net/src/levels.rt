@@ -1,0 +1,92 @@
+//! Levels: an order in which a netlist can be evaluated, or a loop.
+
+use crate::netlist::Netlist;
+use crate::search::Stop;
+use eco_func::{Memory, Name};
+use std::alloc::Global;
+use std::marker::Model;
+
+/// The computed nets of a loop-free netlist, each after all computed nets that its driver reads.
+#[derive(Drop)]
+pub struct Levels {
+    pub(crate) order: Vec<u32>,
+}
+
+impl Model for Levels {
+    ghost use Rattle.std.specs.Prelude.{List, ℕ};
+
+    ghost Value = { List ℕ };
+
+    ghost view = { λ l. l.order.items };
+}
+
+/// Names of nets.
+#[derive(Drop)]
+pub struct Names {
+    pub(crate) names: Vec<Name>,
+}
+
+impl Model for Names {
+    ghost use Rattle.std.specs.Prelude.{List, ℕ};
+
+    ghost Value = { List (List ℕ) };
+
+    ghost view = { λ n. n.names.items };
+}
+
+impl Names {
+    ghost use Rattle.std.specs.Prelude.{◌≡◌};
+
+    /// The names, in order.
+    pub fn as_slice(&self) -> &[Name]
+        ensures { result.now ≡ self.now }
+    {
+        &self.names
+    }
+}
+
+/// Why a netlist has no levels.
+#[derive(Drop)]
+pub enum LoopFault {
+    /// A closed walk of computed nets: each stands once and is read by the driver of the next, the last by that of the
+    /// first, which is the least by bytes.
+    Loop { nets: Names },
+    Memory,
+}
+
+impl From<Memory> for LoopFault {
+    ghost use Rattle.std.specs.Prelude.{◌≡◌};
+    ghost use Rattle.eco_net.specs.declared.levels.LoopFault.TheVariants.{Memory};
+
+    ghost from_gives = { λ _ e. e ≡ Memory };
+
+    fn from(_: Memory) -> LoopFault {
+        LoopFault::Memory
+    }
+}
+
+impl Netlist {
+    ghost use Rattle.std.specs.Prelude.{◌≡◌, ◌<◌, IfOk, IfErr, map, length};
+    ghost use Rattle.std.specs.List.{All};
+    ghost use Rattle.eco_net.specs.Walks.{IsLoopFree};
+    ghost use Rattle.eco_net.specs.Listing.{Listing, netlist, net_name};
+    ghost use Rattle.eco_net.specs.Search.{IsOrder};
+    ghost use Rattle.eco_net.specs.LevelsOf.{LoopIs, IsLevels};
+
+    /// Levels, or a loop exactly where a closed walk of computed nets exists.
+    pub fn levels(&self, alloc: Global) -> Result<Levels, LoopFault>
+        ensures ok { IfOk result (λ l. IsLevels self.now l) }
+        ensures stop { IfErr result (λ e. LoopIs (netlist self.now) e) }
+    {
+        let _counts = self.counts();
+        match self.order(alloc) {
+            Ok(order) => Ok(Levels { order }),
+            Err(Stop::Memory) => Err(LoopFault::Memory),
+            Err(Stop::Ring(ring)) => {
+                let first = self.least(&ring);
+                let nets = self.names_from(alloc, &ring, first)?;
+                Err(LoopFault::Loop { nets })
+            }
+        }
+    }
+}
