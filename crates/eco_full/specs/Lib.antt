@@ -1,0 +1,4 @@
+pub mod Netlists
+pub mod Joints
+pub mod Described
+pub mod Laws
