@@ -1,0 +1,12 @@
+pub mod Orders
+pub mod Joints
+pub mod Insertion
+pub mod Realisation
+pub mod Embeddings
+pub mod Bases
+pub mod Rules
+pub mod Mappings
+pub mod Meaning
+pub mod Live
+pub mod Lone
+pub mod Laws
