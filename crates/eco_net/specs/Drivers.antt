@@ -15,6 +15,12 @@ is_driving (Some (Outside Input)) = false
 is_driving (Some (Outside Output)) = true
 is_driving (Some (Outside Inout)) = true
 
+-- a gate's inputs are INPUT, its outputs OUTPUT
+abbrev pub dir_of_role : Role → Dir
+dir_of_role Reads = Input
+dir_of_role (Computes t) = Output
+dir_of_role (Outside d) = d
+
 -- INPUT and INOUT pins of the chip
 abbrev pub drives_inward : Dir → Bool
 drives_inward Input = true

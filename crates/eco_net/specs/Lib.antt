@@ -6,3 +6,9 @@ pub mod Valuation
 pub mod Walks
 pub mod Depth
 pub mod Laws
+pub mod Index
+pub mod Listing
+pub mod PinOrder
+pub mod ByNumber
+pub mod Kept
+pub mod Pins

@@ -1,0 +1,103 @@
+-- The pins of a gate and of a box by number
+use Rattle.std.proofs.Common.{◌≡◌, ℕ, zero, suc, ◌+◌, ◌-◌, ◌<◌, ◌≤◌, Bool, true, cond, List, [], ◌∷◌, ◌++◌, map, length, get_or, take, drop, Option, Some, None, refl, sym, ap, ap₂, ◌∙◌, arith, slice_get, is_some, true≢false}
+use Rattle.std.specs.Option.{option_map, option_to_list}
+use Rattle.std.specs.List.{filter, All}
+use Rattle.std.proofs.lemmas.Option.{slice_get-map, slice_get-get_or}
+use Rattle.std.proofs.lemmas.List.{length-map, take-append-drop, drop_more}
+use Rattle.std.proofs.lemmas.List.Elements.{filter-append, All-filter}
+use Rattle.eco_func.specs.declared.output.OutputFn.{OutputFn}
+use Rattle.eco_func.specs.Masters.{MasterTables}
+use Rattle.eco_net.specs.declared.kind.BoxPin.{BoxPin}
+use Rattle.eco_net.specs.declared.kind.Kind.TheVariants.{Gate as GivenGate, Boxed as GivenBox}
+use Rattle.eco_net.specs.Netlist.{Name, Role, Reads, Computes, Outside, pins_of}
+use Rattle.eco_net.specs.Listing.{Listing, bits_of, kind_of, IsKnownPin}
+use Rattle.eco_net.specs.ByNumber.{all_pins, pins_on, is_on, sole}
+use Rattle.eco_net.proofs.Basics.{has_from_contains}
+use Rattle.eco_net.proofs.MasterPins.{gate_length, box_length}
+use Rattle.eco_net.proofs.AllPins.{known_has}
+use Rattle.std.proofs.lemmas.List.Elements.{Contains-get_or}
+
+pub append_left : {A : Type 0} (xs ys : List A) (k : ℕ) → k < length xs → slice_get (xs ++ ys) k ≡ slice_get xs k
+append_left [] ys k h = absurd (omega arith)
+append_left (x ∷ xs) ys zero h = refl
+append_left (x ∷ xs) ys (suc k) h = append_left xs ys k (omega arith)
+
+pub append_right : {A : Type 0} (xs ys : List A) (k j : ℕ) → k ≡ length xs + j → slice_get (xs ++ ys) k ≡ slice_get ys j
+append_right [] ys k j e = let z : k ≡ j = omega (arith, e) in ap (slice_get ys) z
+append_right (x ∷ xs) ys zero j e = absurd (omega (arith, e))
+append_right (x ∷ xs) ys (suc k) j e = append_right xs ys k j (omega (arith, e))
+
+-- ---- gates
+
+abbrev pub input_pin : Name → Name × Role
+input_pin p = (p, Reads)
+
+abbrev pub output_pin : OutputFn → Name × Role
+output_pin o = (o.pin, Computes (bits_of o.table))
+
+outputs_are : (os : List OutputFn) → map {B = Name × Role} (λ o. (o.0, Computes o.1)) (map {B = Name × List Bool} (λ o. (o.pin, bits_of o.table)) os) ≡ map output_pin os
+outputs_are [] = refl
+outputs_are (o ∷ os) = ap (λ ps. output_pin o ∷ ps) (outputs_are os)
+
+module _ (m : MasterTables) (ins : List Name) (outs : List OutputFn) (e : ins ≡ m.inputs) (f : outs ≡ m.outputs) where
+  abbrev gate_pins : List (Name × Role)
+  gate_pins = pins_of (kind_of (GivenGate m))
+
+  gate_pins_are : gate_pins ≡ map input_pin ins ++ map output_pin outs
+  gate_pins_are =
+      ap (λ ps. map input_pin m.inputs ++ ps) (outputs_are m.outputs)
+      ∙ sym (ap₂ (λ i o. map input_pin i ++ map output_pin o) e f)
+
+  pub input_at : (k : ℕ) (d : Name) → k < length ins → slice_get gate_pins k ≡ Some (input_pin (get_or ins k d))
+  input_at k d h =
+      ap (λ ps. slice_get ps k) gate_pins_are
+      ∙ append_left (map input_pin ins) (map output_pin outs) k (omega (arith, h, length-map ins input_pin))
+      ∙ slice_get-map input_pin ins k
+      ∙ ap (option_map input_pin) (slice_get-get_or ins k d h)
+
+  pub output_at : (k : ℕ) (d : OutputFn) → length ins ≤ k → k < length gate_pins → slice_get gate_pins k ≡ Some (output_pin (get_or outs (k - length ins) d))
+  output_at k d h g =
+      let l : length gate_pins ≡ length ins + length outs = gate_length m ∙ sym (ap₂ (λ i o. length i + length o) e f) in
+      let z : k ≡ length (map input_pin ins) + (k - length ins) = omega (arith, h, length-map ins input_pin) in
+      ap (λ ps. slice_get ps k) gate_pins_are
+      ∙ append_right (map input_pin ins) (map output_pin outs) k (k - length ins) z
+      ∙ slice_get-map output_pin outs (k - length ins)
+      ∙ ap (option_map output_pin) (slice_get-get_or outs (k - length ins) d (omega (arith, h, g, l)))
+
+-- ---- boxes
+
+abbrev pub box_pin : BoxPin → Name × Role
+box_pin p = (p.name, Outside p.dir)
+
+box_pins_are : (ps : List BoxPin) → pins_of (kind_of (GivenBox ps)) ≡ map box_pin ps
+box_pins_are [] = refl
+box_pins_are (p ∷ ps) = ap (λ qs. box_pin p ∷ qs) (box_pins_are ps)
+
+pub box_at : (ps qs : List BoxPin) (e : qs ≡ ps) (k : ℕ) (d : BoxPin) → k < length (pins_of (kind_of (GivenBox ps))) → slice_get (pins_of (kind_of (GivenBox ps))) k ≡ Some (box_pin (get_or qs k d))
+box_at ps qs e k d h =
+    ap (λ xs. slice_get xs k) (box_pins_are ps)
+    ∙ slice_get-map box_pin ps k
+    ∙ ap (option_map box_pin) (slice_get-get_or ps k d (omega (arith, h, box_length ps)))
+    ∙ sym (ap (λ xs. Some (box_pin (get_or xs k d))) e)
+
+-- ---- the one driving pin among some
+
+pub some_of : {A : Type 0} (o : Option A) → is_some o ≡ true → (x : A) × (o ≡ Some x)
+some_of None e = absurd (true≢false (sym e))
+some_of (Some x) e = (x, refl)
+
+pub two_found : {A : Type 0} (t : A → Bool) (xs : List A) (i : ℕ) (x d : A) → filter t (take i xs) ≡ x ∷ [] → i < length xs → t (get_or xs i d) ≡ true → sole (filter t xs) ≡ None
+two_found t xs i x d e h p =
+    let y = get_or xs i d in
+    ap (λ ys. sole (filter t ys)) (sym (take-append-drop i xs) ∙ ap (λ ys. take i xs ++ ys) (drop_more xs i d h))
+    ∙ ap sole (filter-append t (take i xs) (y ∷ drop (i + 1) xs))
+    ∙ ap₂ (λ a b. sole (a ++ cond b (y ∷ filter t (drop (i + 1) xs)) (filter t (drop (i + 1) xs)))) e p
+
+pub one_found : {A : Type 0} (o : Option A) → sole (option_to_list o) ≡ o
+one_found None = refl
+one_found (Some x) = refl
+
+-- ---- known pins
+
+pub all_known : (L : Listing) (n : ℕ) → All (IsKnownPin L) (pins_on L n)
+all_known L n = All-filter (is_on L n) (IsKnownPin L) (all_pins L) (λ k d h. known_has L _ (has_from_contains (all_pins L) _ (Contains-get_or (all_pins L) k d h)))

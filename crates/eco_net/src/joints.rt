@@ -1,0 +1,55 @@
+//! The nets of a component's pins.
+
+use eco_func::Memory;
+use std::alloc::Global;
+use std::marker::Model;
+
+/// For each pin of a component, in order, the number of its net, or none.
+#[derive(Drop)]
+pub struct Joints {
+    nets: Vec<Option<u32>>,
+}
+
+impl Model for Joints {
+    ghost use Rattle.std.specs.Prelude.{List, Option, ℕ};
+
+    ghost Value = { List (Option ℕ) };
+
+    ghost view = { λ j. j.nets.items };
+}
+
+impl Joints {
+    ghost use Rattle.std.specs.Prelude.{◌≡◌, ◌<◌, None, IfOk, length, replicate, slice_set, slice_get};
+
+    /// So many pins on no net.
+    pub(crate) fn none(alloc: Global, pins: usize) -> Result<Joints, Memory>
+        ensures { IfOk result (λ j. j ≡ replicate pins None) }
+    {
+        Ok(Joints {
+            nets: vec![in alloc; None; pins]?,
+        })
+    }
+
+    /// How many pins there are.
+    pub(crate) fn len(&self) -> usize
+        ensures { result ≡ length self.now }
+    {
+        self.nets.len()
+    }
+
+    /// The net of a pin.
+    pub(crate) fn get(&self, pin: usize) -> Option<u32>
+        requires { pin < length self.now }
+        ensures { slice_get self.now pin ≡ Some result }
+    {
+        self.nets[pin]
+    }
+
+    /// Puts a pin on a net.
+    pub(crate) fn put(&mut self, pin: usize, net: u32)
+        requires { pin < length self.old }
+        ensures { self.new ≡ slice_set self.old pin (Some net) }
+    {
+        self.nets[pin] = Some(net);
+    }
+}

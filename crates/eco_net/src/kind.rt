@@ -1,0 +1,166 @@
+//! What a component is: a gate, or a box with pins.
+
+ghost use Rattle.std.specs.Prelude.{◌≡◌, ◌<◌, Some, length, slice_get};
+ghost use Rattle.std.specs.Option.{option_map};
+
+use eco_func::{MasterFn, Name, Table};
+use eco_text::Dir;
+use std::marker::Model;
+
+/// A pin of a box.
+#[derive(Drop)]
+pub struct BoxPin {
+    pub name: Name,
+    pub dir: Dir,
+}
+
+/// The pins of a box, in order.
+#[derive(Drop)]
+pub struct BoxPins {
+    pins: Vec<BoxPin>,
+}
+
+impl Model for BoxPins {
+    ghost use Rattle.std.specs.Prelude.{List};
+    ghost use Rattle.eco_net.specs.declared.kind.BoxPin.{BoxPin};
+
+    ghost Value = { List BoxPin };
+
+    ghost view = { λ b. b.pins.items };
+}
+
+impl BoxPins {
+    ghost use Rattle.std.specs.Prelude.{◌≡◌};
+
+    /// The box pins of a list, in its order.
+    pub fn of(pins: Vec<BoxPin>) -> BoxPins
+        ensures { result ≡ pins.items }
+    {
+        BoxPins { pins }
+    }
+
+    /// The pins, in order.
+    pub fn as_slice(&self) -> &[BoxPin]
+        ensures { result.now ≡ self.now }
+    {
+        &self.pins
+    }
+}
+
+/// What a pin of a component is for.
+#[derive(Clone, Copy, Debug, Drop, PartialEq, Eq)]
+pub enum PinUse {
+    /// An input of a gate.
+    Reads,
+    /// An output of a gate, by its table.
+    Computes(Table),
+    /// A pin of a box, by its direction.
+    Outside(Dir),
+}
+
+/// What a component is. The pins of a gate are its inputs, then its outputs; those of a box are its list. Supply pins
+/// are in no netlist.
+#[derive(Drop)]
+pub enum Kind {
+    Gate(MasterFn),
+    Boxed(BoxPins),
+}
+
+impl Kind {
+    ghost use Rattle.eco_net.specs.Netlist.{pins_of};
+    ghost use Rattle.eco_net.specs.Listing.{kind_of, HasOwnPins, role_of_use};
+    ghost use Rattle.eco_net.specs.Kept.{IsKind};
+
+    /// How many pins it has.
+    pub(crate) fn pin_count(&self) -> usize
+        ensures count { result ≡ length (pins_of (kind_of self.now)) }
+        ensures is_kind { HasOwnPins self.now → IsKind (kind_of self.now) }
+    {
+        match self {
+            Kind::Gate(master) => master.inputs().len() + master.outputs().len(),
+            Kind::Boxed(pins) => pins.as_slice().len(),
+        }
+    }
+
+    /// What a pin of it is for.
+    pub(crate) fn pin_use(&self, pin: usize) -> PinUse
+        requires { pin < length (pins_of (kind_of self.now)) }
+        ensures { option_map (λ p. p.1) (slice_get (pins_of (kind_of self.now)) pin) ≡ Some (role_of_use result) }
+    {
+        match self {
+            Kind::Gate(master) => {
+                let inputs = master.inputs().len();
+                if pin < inputs {
+                    PinUse::Reads
+                } else {
+                    PinUse::Computes(master.outputs()[pin - inputs].table)
+                }
+            }
+            Kind::Boxed(pins) => PinUse::Outside(pins.as_slice()[pin].dir),
+        }
+    }
+
+    /// The name of a pin of it.
+    pub(crate) fn pin_name(&self, pin: usize) -> &[u8]
+        requires { pin < length (pins_of (kind_of self.now)) }
+        ensures { option_map (λ p. p.0) (slice_get (pins_of (kind_of self.now)) pin) ≡ Some result.now }
+    {
+        match self {
+            Kind::Gate(master) => {
+                let inputs = master.inputs();
+                if pin < inputs.len() {
+                    inputs[pin].bytes()
+                } else {
+                    master.outputs()[pin - inputs.len()].pin.bytes()
+                }
+            }
+            Kind::Boxed(pins) => pins.as_slice()[pin].name.bytes(),
+        }
+    }
+}
+
+impl Kind {
+    ghost use Rattle.std.specs.Prelude.{map, ◌^◌};
+    ghost use Rattle.eco_net.specs.Netlist.{pins_of};
+    ghost use Rattle.eco_net.specs.Listing.{kind_of, FindsName};
+
+    /// The number of the pin of a name.
+    pub(crate) fn find_pin(&self, name: &[u8]) -> Option<u32>
+        requires { length (pins_of (kind_of self.now)) < 2 ^ 32 }
+        ensures { FindsName (map (λ p. p.0) (pins_of (kind_of self.now))) name.now result }
+    {
+        for pin in 0..self.pin_count() as u32 {
+            if self.pin_name(pin as usize) == name {
+                return Some(pin);
+            }
+        }
+        None
+    }
+}
+
+impl PinUse {
+    ghost use Rattle.eco_net.specs.Drivers.{is_driving, dir_of_role};
+    ghost use Rattle.eco_net.specs.Listing.{role_of_use};
+
+    /// Whether such a pin drives its net.
+    pub(crate) fn is_driving(self) -> bool
+        ensures { result ≡ is_driving (Some (role_of_use self)) }
+    {
+        match self {
+            PinUse::Reads => false,
+            PinUse::Computes(_) => true,
+            PinUse::Outside(dir) => dir != Dir::Input,
+        }
+    }
+
+    /// Its direction: a gate's inputs are inputs, its outputs are outputs.
+    pub(crate) fn dir(self) -> Dir
+        ensures { result ≡ dir_of_role (role_of_use self) }
+    {
+        match self {
+            PinUse::Reads => Dir::Input,
+            PinUse::Computes(_) => Dir::Output,
+            PinUse::Outside(dir) => dir,
+        }
+    }
+}

@@ -1,0 +1,224 @@
+//! A netlist: what was listed, the pins of each net and its driver.
+
+use crate::ids::{CompId, Counts, NetId, PinRef, TopId};
+use crate::kind::Kind;
+use crate::maker::NetlistMaker;
+use crate::pins::{PinList, drivers_of, pins_by_net};
+use eco_func::Memory;
+use eco_text::{Dir, Point};
+use std::alloc::Global;
+use std::marker::Model;
+
+/// A netlist that is listed whole. Its numbers are those that its maker gave.
+#[derive(Drop)]
+pub struct Netlist {
+    pub(crate) listed: NetlistMaker,
+    pub(crate) on_net: Vec<PinList>,
+    pub(crate) drivers: Vec<Option<PinRef>>,
+}
+
+/// A pin by its name and that of its component, or none for a top pin.
+#[derive(Clone, Copy, Debug, Drop)]
+pub struct PinName<'a> {
+    pub comp: Option<&'a [u8]>,
+    pub pin: &'a [u8],
+}
+
+impl Model for Netlist {
+    ghost use Rattle.eco_net.specs.Listing.{Listing};
+    ghost use Rattle.eco_net.specs.Kept.{IsFinished};
+
+    ghost Value = { Listing };
+
+    ghost view = { λ n. n.listed };
+
+    ghost invariant = { λ n. IsFinished n.listed n.on_net.items n.drivers.items };
+}
+
+impl NetlistMaker {
+    ghost use Rattle.std.specs.Prelude.{◌≡◌, IfOk};
+    ghost use Rattle.eco_net.specs.Listing.{netlist};
+    ghost use Rattle.eco_net.specs.Netlist.{IsWhole};
+
+    /// The netlist that was listed.
+    pub fn finish(self, alloc: Global) -> Result<Netlist, Memory>
+        ensures { IfOk result (λ n. n ≡ self) }
+    {
+        let _listing = self.net_count();
+        let on_net = pins_by_net(alloc, &self)?;
+        let drivers = drivers_of(alloc, &self, &on_net)?;
+        Ok(Netlist {
+            listed: self,
+            on_net,
+            drivers,
+        })
+    }
+}
+
+impl Netlist {
+    ghost use Rattle.std.specs.Prelude.{◌≡◌, ◌<◌, Some, None, length, slice_get, MatchOption, IfSome};
+    ghost use Rattle.std.specs.Option.{option_map};
+    ghost use Rattle.std.specs.FinMap.{get};
+    ghost use Rattle.std.specs.FinSet.{contains};
+    ghost use Rattle.eco_net.specs.declared.ids.PinRef.{PinRef};
+    ghost use Rattle.eco_net.specs.Drivers.{net_of, dir_of_role};
+    ghost use Rattle.eco_net.specs.Netlist.{IsWhole};
+    ghost use Rattle.eco_net.specs.Listing.{Listing, netlist, net_names, comp_names, net_name, pin_named, pin_by, IsKnownPin, FindsPin};
+    ghost use Rattle.eco_net.specs.ByNumber.{role_at};
+    ghost use Rattle.eco_net.specs.Kept.{IsListing};
+    ghost use Rattle.eco_net.specs.Pins.{DriverIs};
+
+    /// How many nets, components and top pins it has.
+    pub fn counts(&self) -> Counts
+        ensures nets { result.nets ≡ length self.now.nets }
+        ensures comps { result.comps ≡ length self.now.comps }
+        ensures tops { result.tops ≡ length self.now.tops }
+        ensures listing { IsListing self.now }
+    {
+        Counts {
+            nets: self.listed.net_count(),
+            comps: self.listed.comp_count(),
+            tops: self.listed.top_count(),
+        }
+    }
+
+    /// The net of a name.
+    pub fn find_net(&self, name: &[u8]) -> Option<NetId>
+        ensures { MatchOption result (get (netlist self.now).nets name.now ≡ None) (λ n. slice_get (net_names self.now) n.0 ≡ Some name.now) }
+    {
+        match self.listed.net_number(name) {
+            Some(number) => Some(NetId(number)),
+            None => None,
+        }
+    }
+
+    /// The component of a name.
+    pub fn find_comp(&self, name: &[u8]) -> Option<CompId>
+        ensures { MatchOption result (get (netlist self.now).comps name.now ≡ None) (λ c. slice_get (comp_names self.now) c.0 ≡ Some name.now) }
+    {
+        match self.listed.comp_number(name) {
+            Some(number) => Some(CompId(number)),
+            None => None,
+        }
+    }
+
+    /// The name of a net.
+    pub fn net_name(&self, net: NetId) -> &[u8]
+        requires { net.0 < length self.now.nets }
+        ensures { slice_get (net_names self.now) net.0 ≡ Some result.now }
+    {
+        self.listed.net(net.0).name.bytes()
+    }
+
+    /// The name of a component.
+    pub fn comp_name(&self, comp: CompId) -> &[u8]
+        requires { comp.0 < length self.now.comps }
+        ensures { slice_get (comp_names self.now) comp.0 ≡ Some result.now }
+    {
+        self.listed.comp(comp.0).name.bytes()
+    }
+
+    /// What a component is.
+    pub fn kind(&self, comp: CompId) -> &Kind
+        requires { comp.0 < length self.now.comps }
+        ensures { option_map (λ r. r.kind) (slice_get self.now.comps comp.0) ≡ Some result.now }
+    {
+        &self.listed.comp(comp.0).kind
+    }
+
+    /// Where a component is placed, in database units.
+    pub fn place_of(&self, comp: CompId) -> Option<Point>
+        requires { comp.0 < length self.now.comps }
+        ensures { option_map (λ r. r.place) (slice_get self.now.comps comp.0) ≡ Some result }
+    {
+        self.listed.comp(comp.0).place
+    }
+
+    /// The direction of a top pin.
+    pub fn top_dir(&self, top: TopId) -> Dir
+        requires { top.0 < length self.now.tops }
+        ensures { option_map (λ r. r.dir) (slice_get self.now.tops top.0) ≡ Some result }
+    {
+        self.listed.top(top.0).dir
+    }
+
+    /// The value of a supply, or none where the net is no supply.
+    pub fn supply(&self, net: NetId) -> Option<bool>
+        requires { net.0 < length self.now.nets }
+        ensures { option_map (λ r. r.supply) (slice_get self.now.nets net.0) ≡ Some result }
+    {
+        self.listed.net(net.0).supply
+    }
+
+    /// Whether a net is a tie net.
+    pub fn is_tie(&self, net: NetId) -> bool
+        requires { net.0 < length self.now.nets }
+        ensures { option_map (λ r. r.tie) (slice_get self.now.nets net.0) ≡ Some result }
+    {
+        self.listed.net(net.0).tie
+    }
+
+    /// Whether a name stands for a component elsewhere.
+    pub fn is_reserved(&self, name: &[u8]) -> bool
+        ensures { result ≡ contains (netlist self.now).reserved name.now }
+    {
+        self.listed.is_reserved(name)
+    }
+
+    /// The direction of a component's pin: a gate's inputs are inputs, its outputs are outputs.
+    pub fn pin_dir(&self, comp: CompId, pin: u32) -> Dir
+        requires { IsKnownPin self.now (PinRef.Pin comp pin) }
+        ensures { option_map dir_of_role (role_at (slice_get self.now.comps comp.0) pin) ≡ Some result }
+    {
+        self.listed.comp(comp.0).kind.pin_use(pin as usize).dir()
+    }
+
+    /// The name of a pin.
+    pub fn pin_name(&self, pin: PinRef) -> PinName<'_>
+        requires { IsKnownPin self.now pin }
+        ensures { pin_named self.now pin ≡ pin_by (option_map (λ c. c.now) result.comp) result.pin.now }
+    {
+        match pin {
+            PinRef::Top(top) => PinName {
+                comp: None,
+                pin: self.listed.top(top.0).name.bytes(),
+            },
+            PinRef::Pin(comp, pin) => {
+                let row = self.listed.comp(comp.0);
+                PinName {
+                    comp: Some(row.name.bytes()),
+                    pin: row.kind.pin_name(pin as usize),
+                }
+            }
+        }
+    }
+
+    /// The net that a pin is on.
+    pub fn net_of(&self, pin: PinRef) -> Option<NetId>
+        requires { IsKnownPin self.now pin }
+        ensures named { option_map (λ n. net_name self.now.nets n.0) result ≡ net_of (netlist self.now) (pin_named self.now pin) }
+        ensures known { IfSome result (λ n. n.0 < length self.now.nets) }
+    {
+        match self.listed.net_of_pin(pin) {
+            Some(number) => Some(NetId(number)),
+            None => None,
+        }
+    }
+
+    /// The number of a component's pin of a name.
+    pub fn find_pin(&self, comp: CompId, name: &[u8]) -> Option<u32>
+        requires { comp.0 < length self.now.comps }
+        ensures { FindsPin (slice_get self.now.comps comp.0) name.now result }
+    {
+        self.listed.comp(comp.0).kind.find_pin(name)
+    }
+
+    /// The one driving pin of a net, or none where it has none or several. Driving pins are the chip's INPUT and INOUT
+    /// pins, and the OUTPUT and INOUT pins of components.
+    pub fn driver(&self, net: NetId) -> Option<PinRef>
+        requires { net.0 < length self.now.nets }
+        ensures { DriverIs self.now (net_name self.now.nets net.0) result }
+    {
+        self.drivers[net.0 as usize]
+    }
+}

@@ -1,0 +1,95 @@
+//! What was listed, by number and by name.
+
+ghost use Rattle.std.specs.Prelude.{◌≡◌, ◌<◌, Some, None, length, slice_get, MatchOption};
+ghost use Rattle.std.specs.FinMap.{get};
+ghost use Rattle.std.specs.FinSet.{contains};
+ghost use Rattle.eco_net.specs.Listing.{Listing, netlist, net_names, comp_names, IsKnownPin};
+ghost use Rattle.eco_net.specs.Kept.{IsListing, IsRow};
+ghost use Rattle.eco_net.specs.ByNumber.{net_at, drives, end_of, joint_at};
+
+use crate::ids::PinRef;
+use crate::maker::NetlistMaker;
+use crate::rows::{CompRow, NetRow, TopRow};
+use eco_text::Dir;
+
+impl NetlistMaker {
+    /// How many nets there are.
+    pub(crate) fn net_count(&self) -> u32
+        ensures count { result ≡ length self.now.nets }
+        ensures listing { IsListing self.now }
+    {
+        self.nets.len() as u32
+    }
+
+    /// How many components there are.
+    pub(crate) fn comp_count(&self) -> u32
+        ensures { result ≡ length self.now.comps }
+    {
+        self.comps.len() as u32
+    }
+
+    /// How many top pins there are.
+    pub(crate) fn top_count(&self) -> u32
+        ensures { result ≡ length self.now.tops }
+    {
+        self.tops.len() as u32
+    }
+
+    /// The net of a number.
+    pub(crate) fn net(&self, net: u32) -> &NetRow
+        requires { net < length self.now.nets }
+        ensures { slice_get self.now.nets net ≡ Some result.now }
+    {
+        &self.nets[net as usize]
+    }
+
+    /// The component of a number.
+    pub(crate) fn comp(&self, comp: u32) -> &CompRow
+        requires { comp < length self.now.comps }
+        ensures at { slice_get self.now.comps comp ≡ Some result.now }
+        ensures row { IsRow (length self.now.nets) result.now }
+    {
+        &self.comps[comp as usize]
+    }
+
+    /// The top pin of a number.
+    pub(crate) fn top(&self, top: u32) -> &TopRow
+        requires { top < length self.now.tops }
+        ensures at { slice_get self.now.tops top ≡ Some result.now }
+        ensures known { result.now.net < length self.now.nets }
+    {
+        &self.tops[top as usize]
+    }
+
+    /// The number of the net of a name.
+    pub(crate) fn net_number(&self, name: &[u8]) -> Option<u32>
+        ensures { MatchOption result (get (netlist self.now).nets name.now ≡ None) (λ n. slice_get (net_names self.now) n ≡ Some name.now) }
+    {
+        self.net_places.find(name)
+    }
+
+    /// The number of the component of a name.
+    pub(crate) fn comp_number(&self, name: &[u8]) -> Option<u32>
+        ensures { MatchOption result (get (netlist self.now).comps name.now ≡ None) (λ c. slice_get (comp_names self.now) c ≡ Some name.now) }
+    {
+        self.comp_places.find(name)
+    }
+
+    /// Whether a name stands for a component elsewhere.
+    pub(crate) fn is_reserved(&self, name: &[u8]) -> bool
+        ensures { result ≡ contains (netlist self.now).reserved name.now }
+    {
+        self.reserved_places.find(name).is_some()
+    }
+
+    /// The number of the net that a pin is on.
+    pub(crate) fn net_of_pin(&self, pin: PinRef) -> Option<u32>
+        requires { IsKnownPin self.now pin }
+        ensures { result ≡ net_at self.now pin }
+    {
+        match pin {
+            PinRef::Top(top) => Some(self.top(top.0).net),
+            PinRef::Pin(comp, pin) => self.comp(comp.0).joined.get(pin as usize),
+        }
+    }
+}
