@@ -4,6 +4,8 @@
 mod bytes;
 mod fault;
 mod moving;
+mod one_fault;
+mod one_gate;
 mod overlay;
 mod pin_move;
 mod stretch;
@@ -11,6 +13,8 @@ mod writer;
 
 pub use crate::fault::MoveFault;
 pub use crate::moving::move_joint;
+pub use crate::one_fault::OneFault;
+pub use crate::one_gate::OneGate;
 pub use crate::overlay::Overlay;
 pub use crate::writer::{emit, emit_len};
 
