@@ -1,5 +1,5 @@
 -- One patch gate on one named spare.
-use Rattle.std.specs.Prelude.{◌≡◌, ◌≢◌, ◌⊎◌, ◌↔◌, ℕ, Bool, true, List, [], ◌∷◌, map, length, Option, Some, None, Ok}
+use Rattle.std.specs.Prelude.{◌≡◌, ◌≢◌, ◌⊎◌, ◌↔◌, ℕ, Bool, true, List, [], ◌∷◌, map, length, Some, None, Ok}
 use Rattle.std.specs.List.{Contains}
 use Rattle.std.specs.FinMap.{get}
 use Rattle.eco_text.specs.declared.geometry.Point.{Point}
@@ -18,13 +18,15 @@ use Rattle.eco_net.specs.Walks.{IsLoopFree}
 use Rattle.eco_net.specs.Listing.{bits_of}
 use Rattle.eco_patch.specs.Orders.{PatchGate, Move, Placement, Feed, Zero, One, FromInput}
 use Rattle.eco_patch.specs.Insertion.{inserted}
-use Rattle.eco_patch.specs.Realisation.{realised}
+use Rattle.eco_patch.specs.Joints.{Joint}
+use Rattle.eco_patch.specs.Realisation.{patch_joints, realised}
 use Rattle.eco_patch.specs.Embeddings.{Embeds}
 use Rattle.eco_patch.specs.Bases.{bare}
 use Rattle.eco_patch.specs.Lone.{lone_order, lone_base}
 use Rattle.eco_base.specs.declared.one_gate.OneGate.{OneGate}
 use Rattle.eco_base.specs.Gates.{netlist_of_gates}
 use Rattle.eco_base.specs.NewNets.{can_be_new}
+use Rattle.eco_base.specs.PlainBases.{IsPlain}
 
 -- ---- the order
 
@@ -32,6 +34,10 @@ abbrev pub feed_of : Tied → Feed
 feed_of TiedLow = Zero
 feed_of TiedHigh = One
 feed_of (TiedTo i) = FromInput i
+
+-- the same pin on the same net
+abbrev pub new_joint : Joint → NewJoint
+new_joint j = record { comp = j.comp; pin = j.pin; net = j.net }
 
 abbrev pub gate_of : OneGate → PatchGate
 gate_of one = record { name = []; table = bits_of one.table; inputs = one.inputs.items; output = one.output }
@@ -54,13 +60,13 @@ pub record IsOneSpare (N : Netlist) (low high spare : Name) : Type 0 where
   pub tied : (p : Name) → Contains inputs p → (get comp.joined p ≡ Some low) ⊎ (get comp.joined p ≡ Some high)
   pub off : get comp.joined output ≡ None
 
--- the netlist without the spare, and with the gate and the move
-abbrev pub patched : Netlist → Name → Name → OneGate → (Name → Option Point) → Netlist
-patched N low high one place = inserted [] place (bare (lone_base N low high one.spare)) (lone_order (gate_of one) (move_of one))
+-- The netlist without the spare, and with the gate and the move. The gate is unplaced.
+abbrev pub patched : Netlist → Name → Name → OneGate → Netlist
+patched N low high one = inserted [] (λ gate. None) (bare (lone_base N low high one.spare)) (lone_order (gate_of one) (move_of one))
 
 -- Each input is a net, the output can be a new net and is none yet, the moved pin is an input of another component and on the
 -- net that it leaves, the table has an input for each, and no signal runs in a circle with the gate inserted.
-pub record IsGoodOrder (N : Netlist) (low high : Name) (one : OneGate) (place : Name → Option Point) : Type 0 where
+pub record IsGoodOrder (N : Netlist) (low high : Name) (one : OneGate) : Type 0 where
   pub inputs_known : (n : Name) → Contains one.inputs.items n → IsNet N n
   pub output_form : can_be_new one.output ≡ true
   pub output_new : get N.nets one.output ≡ None
@@ -70,12 +76,12 @@ pub record IsGoodOrder (N : Netlist) (low high : Name) (one : OneGate) (place : 
   pub pin_reads : role_of comp one.pin ≡ Some Reads
   pub from : get comp.joined one.pin ≡ Some one.from_net
   pub rows : length one.inputs.items ≡ one.table.inputs
-  pub loop_free : IsLoopFree (patched N low high one place)
+  pub loop_free : IsLoopFree (patched N low high one)
 
 abbrev pub placement : OneGate → Name → Placement
 placement one output = record { gate = []; spare = one.spare; output = output; feeds = map feed_of one.feeds.items }
 
--- the spare's one output with its inputs tied so is the gate
+-- the component's output with its inputs tied so is the gate
 abbrev pub IsEmbedded : OneGate → Component → Name → Type 0
 IsEmbedded one comp output = Embeds (length one.inputs.items) (bits_of one.table) comp output (map feed_of one.feeds.items)
 
@@ -85,14 +91,23 @@ IsEmbedded one comp output = Embeds (length one.inputs.items) (bits_of one.table
 abbrev pub with_spare : Netlist → Name → Name → OneGate → Name → Netlist
 with_spare N low high one output = realised low high N (lone_order (gate_of one) (move_of one)) (placement one output ∷ [])
 
--- The issued text reads back to the netlist with the spare, and a map from nets to bits is a valuation of that netlist exactly
--- where it is one of the netlist with the gate.
-pub record IsApplied (functions : List MasterTables) (low high : Name) (text : List ℕ) (design : Design) (one : OneGate) (place : Name → Option Point) (output : Name) (overlay : List Edit) : Type 0 where
-  pub joints : List NewJoint
-  pub issued : IsOverlayOf text design joints (one.output ∷ []) overlay
+-- the pins that the spare's metal puts on nets: the moved pin and the output on the new net, the inputs on those of their feeds
+abbrev pub one_joints : Netlist → Name → Name → OneGate → Name → List NewJoint
+one_joints N low high one output = map new_joint (patch_joints low high N (lone_order (gate_of one) (move_of one)) (placement one output ∷ []))
+
+-- A map from nets to bits is a valuation of the netlist with the gate exactly where it is one of the netlist with the spare.
+abbrev pub ComputesSame : Netlist → Name → Name → OneGate → Name → Type 0
+ComputesSame N low high one output = (cut : CutBits) (v : Valuation) → IsValuation (patched N low high one) cut v ↔ IsValuation (with_spare N low high one output) cut v
+
+-- the issued text has a design, and its netlist is that with the spare
+pub record ReadsBackTo (functions : List MasterTables) (low high : Name) (text : List ℕ) (overlay : List Edit) (N : Netlist) : Type 0 where
   pub again : Design
   pub reads_back : design_of (edited text 0 overlay) ≡ Ok again
-  pub realised : netlist_of_gates functions low high (names_of again) ≡ with_spare (netlist_of_gates functions low high (names_of design)) low high one output
-  pub computes : (cut : CutBits) (v : Valuation) →
-      IsValuation (patched (netlist_of_gates functions low high (names_of design)) low high one place) cut v
-      ↔ IsValuation (with_spare (netlist_of_gates functions low high (names_of design)) low high one output) cut v
+  pub netlist : netlist_of_gates functions low high (names_of again) ≡ N
+
+-- The overlay issues the text with the spare's pins on their nets. The gate and the spare compute the same. On a plain base
+-- the issued text reads back to the netlist with the spare.
+pub record IsApplied (functions : List MasterTables) (low high : Name) (text : List ℕ) (design : Design) (one : OneGate) (output : Name) (overlay : List Edit) : Type 0 where
+  pub issued : IsOverlayOf text design (one_joints (netlist_of_gates functions low high (names_of design)) low high one output) (one.output ∷ []) overlay
+  pub computes : ComputesSame (netlist_of_gates functions low high (names_of design)) low high one output
+  pub back : IsPlain functions design → ReadsBackTo functions low high text overlay (with_spare (netlist_of_gates functions low high (names_of design)) low high one output)

@@ -3,6 +3,7 @@
 
 mod bytes;
 mod fault;
+mod laws;
 mod moving;
 mod one_fault;
 mod one_gate;
@@ -12,6 +13,7 @@ mod stretch;
 mod writer;
 
 pub use crate::fault::MoveFault;
+pub use crate::laws::{one_gate_applies, same_joints};
 pub use crate::moving::move_joint;
 pub use crate::one_fault::OneFault;
 pub use crate::one_gate::OneGate;
