@@ -1,5 +1,12 @@
 pub mod Stretches
 pub mod Editing
+mod Moves
+pub mod Issuing
+pub mod NetsOnce
+pub mod NewNames
+pub mod Macros
+pub mod SameJoints
+pub mod Applying
 pub mod Sorting
 pub mod Orders
 pub mod Places
