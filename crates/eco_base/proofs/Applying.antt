@@ -31,13 +31,13 @@ use Rattle.eco_full.proofs.Issuing.{issued_is}
 use Rattle.eco_full.proofs.Keeping.{netlist_whole}
 use Rattle.eco_full.proofs.Nets.{net_unknown}
 use Rattle.eco_full.proofs.Rewiring.{apart_is}
-use Rattle.eco_full.proofs.Statements.{has_of_append}
+use Rattle.eco_full.proofs.Members.{has_of_append}
 use Rattle.eco_patch.specs.Orders.{PatchGate, Move, Order, Placement}
 use Rattle.eco_patch.specs.Joints.{Joint, Takes}
 use Rattle.eco_patch.specs.Realisation.{patch_joints}
 use Rattle.eco_patch.specs.Bases.{IsSpare, HasBlank}
 use Rattle.eco_patch.specs.Lone.{lone_order, lone_base, IsSupplied, IsLone}
-use Rattle.eco_patch.specs.Laws.{IsPatch}
+use Rattle.eco_patch.specs.Patches.{IsPatch}
 use Rattle.eco_patch.proofs.Alone.{is_patch}
 use Rattle.eco_patch.proofs.Patches.{same_valuations}
 use Rattle.eco_patch.proofs.Taking.{base_takes_joints}
@@ -207,7 +207,7 @@ module _ (functions : List MasterTables) (low high : Name) (text : List ℕ) (de
       pin_reads = good.pin_reads;
       from = good.from;
       to = refl;
-      loop_free = good.loop_free;
+      loop_free = inl good.loop_free;
       embeds = embedded;
     }
 

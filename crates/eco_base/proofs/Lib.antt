@@ -1,12 +1,5 @@
 pub mod Stretches
 pub mod Editing
-mod Moves
-pub mod Issuing
-pub mod NetsOnce
-pub mod NewNames
-pub mod Macros
-pub mod SameJoints
-pub mod Applying
 pub mod Sorting
 pub mod Orders
 pub mod Places
@@ -18,3 +11,8 @@ pub mod Lean
 pub mod Readings
 pub mod IssuedTexts
 pub mod Changing
+pub mod NetsOnce
+pub mod NewNames
+pub mod Macros
+pub mod SameJoints
+pub mod Applying

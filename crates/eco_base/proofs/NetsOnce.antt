@@ -14,7 +14,7 @@ use Rattle.eco_issued.proofs.Back.{parts_of}
 use Rattle.eco_net.proofs.Basics.{Has, has_map, has_of_map, same_Some, not_None}
 use Rattle.eco_full.proofs.Names.{is_name}
 use Rattle.eco_full.proofs.Members.{has_any}
-use Rattle.eco_full.proofs.Statements.{has_of_append}
+use Rattle.eco_full.proofs.Members.{has_of_append}
 
 -- ---- what readings give
 

@@ -25,9 +25,9 @@ mod writer;
 pub use crate::fault::MoveFault;
 pub use crate::laws::{one_gate_applies, same_joints};
 pub use crate::moving::move_joint;
+pub use crate::new_joint::NewJoint;
 pub use crate::one_fault::OneFault;
 pub use crate::one_gate::OneGate;
-pub use crate::new_joint::NewJoint;
 pub use crate::overlay::Overlay;
 pub use crate::writer::{emit, emit_len};
 

@@ -254,3 +254,85 @@ fn pins_and_new_nets_in_order(rt: HostRuntime) -> Result<(), Fail> {
     assert_eq!(rt; issued(&rt, rt.alloc(), text, &[], &[])?.as_str(), text);
     Ok(())
 }
+
+/// The small base.
+const BASE: &str = "VERSION 5.8 ;
+DIVIDERCHAR \"/\" ;
+BUSBITCHARS \"[]\" ;
+DESIGN top ;
+UNITS DISTANCE MICRONS 1000 ;
+DIEAREA ( 0 0 ) ( 20000 20000 ) ;
+COMPONENTS 7 ;
+- u1 NAND2 + PLACED ( 1000 1000 ) N ;
+- u2 INV + PLACED ( 3000 1000 ) N ;
+- r1 DFF + PLACED ( 5000 1000 ) N ;
+- SP_1 NAND2 + FIXED ( 2000 2000 ) N ;
+- SP_2 NAND2 + FIXED ( 8000 2000 ) N ;
+- SP_3 AOI21 + FIXED ( 6000 2000 ) N ;
+- SP_4 NAND2 + UNPLACED ;
+END COMPONENTS
+PINS 4 ;
+- a + NET a + DIRECTION INPUT + USE SIGNAL ;
+- b + NET b + DIRECTION INPUT + USE SIGNAL ;
+- ck + NET ck + DIRECTION INPUT + USE CLOCK ;
+- q + NET q + DIRECTION OUTPUT + USE SIGNAL ;
+END PINS
+SPECIALNETS 2 ;
+- VDD ( * VDD ) + USE POWER ;
+- VSS ( * VSS ) ( SP_1 A ) ( SP_1 B ) ( SP_2 A ) ( SP_2 B ) ( SP_3 A ) ( SP_3 B ) ( SP_3 C ) + USE GROUND ;
+END SPECIALNETS
+NETS 6 ;
+- a ( PIN a ) ( u1 A ) ;
+- b ( PIN b ) ( u1 B ) ;
+- ck ( PIN ck ) ( r1 CK ) ;
+- n1 ( u1 Y ) ( u2 A ) + ROUTED M1 ( 1000 1000 ) ( 3000 * ) ;
+- n2 ( u2 Y ) ( r1 D ) ;
+- q ( r1 Q ) ( PIN q ) ;
+END NETS
+END DESIGN
+";
+
+#[test]
+fn a_tied_gate_of_the_small_base(rt: HostRuntime) -> Result<(), Fail> {
+    let alloc = rt.alloc();
+    let joints = [
+        ["SP_1", "A", "VDD"],
+        ["SP_1", "B", "n1"],
+        ["SP_1", "Y", "m1"],
+        ["r1", "D", "m1"],
+    ];
+    let wanted = BASE
+        .replace(alloc, "- VDD ( * VDD ) +", "- VDD ( * VDD ) ( SP_1 A ) +")?
+        .replace(alloc, "( * VSS ) ( SP_1 A ) ( SP_1 B ) ", "( * VSS ) ")?
+        .replace(
+            alloc,
+            "( u2 A ) + ROUTED M1 ( 1000 1000 ) ( 3000 * ) ;",
+            "( u2 A ) ( SP_1 B ) ;",
+        )?
+        .replace(alloc, "- n2 ( u2 Y ) ( r1 D ) ;", "- n2 ( u2 Y ) ;")?
+        .replace(alloc, "NETS 6 ;", "NETS 7 ;")?
+        .replace(alloc, "END NETS", "- m1 ( SP_1 Y ) ( r1 D ) ;\nEND NETS")?;
+    assert_eq!(rt; issued(&rt, alloc, BASE, &joints, &["m1"])?, wanted);
+    assert_eq!(rt; issued(&rt, alloc, BASE, &[], &[])?.as_str(), BASE);
+    Ok(())
+}
+
+#[test]
+fn nets_in_both_sections_and_of_top_pins_alone(rt: HostRuntime) -> Result<(), Fail> {
+    let text =
+        "UNITS DISTANCE MICRONS 1 ; COMPONENTS 0 ; END COMPONENTS PINS 3 ; - p + NET top ; - q + NET top ; - r + NET other ; END PINS NETS 1 ; - n\t( u1 A ) ( u1 B ) + USE CLOCK + ROUTED M1 ; END NETS SPECIALNETS 3 ; - n ( u2 A # left\n ) ( PIN p ) + ROUTED M1 ( 0 0 ) + USE CLOCK ; - s\t( u3 A ) ( u3 B + SYNTHESIZED )\t+ SHAPE RING + USE GROUND ; - e + FIXED M1 ; END SPECIALNETS END DESIGN";
+    let joints = [
+        ["u2", "A", "s"],
+        ["u3", "A", "n"],
+        ["u1", "B", "top"],
+        ["u0", "Z", "top"],
+        ["u4", "A", "e"],
+    ];
+    let wanted =
+        "UNITS DISTANCE MICRONS 1 ; COMPONENTS 0 ; END COMPONENTS PINS 3 ; - p + NET top ; - q + NET top ; - r + NET other ; END PINS NETS 2 ; - n ( u1 A ) ( u3 A ) + USE CLOCK ; - top ( u0 Z ) ( u1 B ) ;\nEND NETS SPECIALNETS 3 ; - n ( PIN p ) + ROUTED M1 ( 0 0 ) + USE CLOCK ; - s ( u3 B + SYNTHESIZED ) ( u2 A )\t+ SHAPE RING + USE GROUND ; - e ( u4 A ) + FIXED M1 ; END SPECIALNETS END DESIGN";
+    assert_eq!(rt;
+        issued(&rt, rt.alloc(), text, &joints, &[])?.as_str(),
+        wanted
+    );
+    Ok(())
+}

@@ -2,6 +2,7 @@
 use Rattle.std.specs.Prelude.{◌≡◌, ℕ, decimal, ◌⊎◌, List, [], ◌∷◌, ◌++◌, Option, Result, Ok, Err, codes}
 use Rattle.std.specs.Io.KnownBytes.{append_known}
 use Rattle.eco_text.specs.Causes.{Rose, AppendsFront}
+use Rattle.eco_text.specs.declared.word.TextFault.{TextFault}
 use Rattle.eco_text.specs.declared.word.TextFault.TheVariants.{OpenQuote}
 use Rattle.eco_def.specs.declared.fault.DefFault.{DefFault}
 use Rattle.eco_def.specs.declared.fault.DefFault.TheVariants as def
@@ -36,9 +37,13 @@ section_words Units = codes "UNITS"
 section_words Components = codes "COMPONENTS"
 section_words Nets = codes "NETS"
 
+-- where the quoted word begins that doesn't end
+abbrev pub quote_place : TextFault → ℕ
+quote_place (OpenQuote place) = place
+
 -- a fault of a DEF by its name, and its place in bytes or what is missing
 abbrev pub def_text : DefFault → List ℕ
-def_text (def.Text (OpenQuote place)) = codes "Text OpenQuote place=" ++ decimal place
+def_text (def.Text fault) = codes "Text OpenQuote place=" ++ decimal (quote_place fault)
 def_text (def.UnknownHeading place) = codes "UnknownHeading place=" ++ decimal place
 def_text (def.Unended place) = codes "Unended place=" ++ decimal place
 def_text (def.BadStatement place) = codes "BadStatement place=" ++ decimal place

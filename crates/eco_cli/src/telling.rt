@@ -3,7 +3,7 @@
 ghost use Rattle.std.specs.Prelude.{◌≡◌, ◌≤◌, decimal, ◌++◌, [], ◌∷◌};
 ghost use Rattle.std.specs.List.{flat_map};
 ghost use Rattle.eco_text.specs.Writing.{joined, Writes};
-ghost use Rattle.eco_cli.specs.Telling.{status_of, move_words, section_words, def_text, refusal_text, failure_text, done_text, line_of, Tells};
+ghost use Rattle.eco_cli.specs.Telling.{status_of, move_words, section_words, quote_place as place_of_quote, def_text, refusal_text, failure_text, done_text, line_of, Tells};
 
 use crate::done::Done;
 use crate::failure::Failure;
@@ -51,13 +51,34 @@ fn section_word(section: Section) -> &'static [u8]
     }
 }
 
+/// A line of three parts.
+fn print_parts<O: Sink>(
+    first: &[u8],
+    second: &[u8],
+    third: &[u8],
+    out: &mut O,
+) -> Result<(), Failed>
+    ensures { Writes O.taken O.faults out.old out.new result ((first.now ++ (second.now ++ third.now)) ++ 10 ∷ []) }
+{
+    write_pieces(out, &[first, second, third, b"\n"])
+}
+
 /// A line of a name and a place.
 fn print_place<O: Sink>(head: &[u8], name: &[u8], place: u32, out: &mut O) -> Result<(), Failed>
-    ensures { Writes O.taken O.faults out.old out.new result ((head.now ++ name.now ++ decimal place) ++ 10 ∷ []) }
+    ensures { Writes O.taken O.faults out.old out.new result ((head.now ++ (name.now ++ decimal place)) ++ 10 ∷ []) }
 {
     let mut buffer = Buffer::new();
     let digits = buffer.format(place);
-    write_pieces(out, &[head, name, digits.as_bytes(), b"\n"])
+    print_parts(head, name, digits.as_bytes(), out)
+}
+
+/// Where the quoted word begins that doesn't end.
+fn quote_place(fault: TextFault) -> u32
+    ensures { result ≡ place_of_quote fault }
+{
+    match fault {
+        TextFault::OpenQuote { place } => place,
+    }
 }
 
 /// The line of a DEF's fault, behind what it begins with.
@@ -65,8 +86,8 @@ fn print_def<O: Sink>(head: &[u8], fault: DefFault, out: &mut O) -> Result<(), F
     ensures { Writes O.taken O.faults out.old out.new result ((head.now ++ def_text fault) ++ 10 ∷ []) }
 {
     match fault {
-        DefFault::Text(TextFault::OpenQuote { place }) => {
-            print_place(head, b"Text OpenQuote place=", place, out)
+        DefFault::Text(fault) => {
+            print_place(head, b"Text OpenQuote place=", quote_place(fault), out)
         }
         DefFault::UnknownHeading { place } => {
             print_place(head, b"UnknownHeading place=", place, out)
@@ -76,11 +97,10 @@ fn print_def<O: Sink>(head: &[u8], fault: DefFault, out: &mut O) -> Result<(), F
         DefFault::TwiceNamed { place } => print_place(head, b"TwiceNamed place=", place, out),
         DefFault::MustJoin { place } => print_place(head, b"MustJoin place=", place, out),
         DefFault::Limit { place } => print_place(head, b"Limit place=", place, out),
-        DefFault::Missing { which } => write_pieces(
-            out,
-            &[head, b"Missing which=", section_word(which), b"\n"],
-        ),
-        DefFault::Memory => write_pieces(out, &[head, b"memory\n"]),
+        DefFault::Missing { which } => {
+            print_parts(head, b"Missing which=", section_word(which), out)
+        }
+        DefFault::Memory => print_parts(head, b"memory", b"", out),
     }
 }
 
