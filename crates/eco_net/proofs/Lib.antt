@@ -24,5 +24,8 @@ pub mod Searching
 pub mod SearchPaths
 pub mod Orders
 pub mod Rotated
+pub mod Ranges
+pub mod KeyNames
+pub mod Valued
 mod Examples
 mod Loops

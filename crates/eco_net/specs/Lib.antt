@@ -17,3 +17,5 @@ pub mod Among
 pub mod Search
 pub mod LevelsOf
 pub mod Rings
+pub mod KeysOf
+pub mod ValuesOf

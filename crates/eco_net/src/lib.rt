@@ -4,6 +4,7 @@
 //! added. The specifications speak of names; a listing says which name each number has.
 #![tactic(auto)]
 
+mod cut;
 mod gates;
 mod ids;
 mod index;
@@ -19,6 +20,7 @@ mod rows;
 mod search;
 mod walk;
 
+pub use crate::cut::{CutKey, CutValues};
 pub use crate::ids::{CompId, Counts, NetId, PinRef, TopId};
 pub use crate::kind::{BoxPin, BoxPins, Kind};
 pub use crate::laws::{
@@ -28,3 +30,6 @@ pub use crate::levels::{Levels, LoopFault, Names};
 pub use crate::maker::NetlistMaker;
 pub use crate::netlist::{Netlist, PinName};
 pub use crate::rows::{CompRow, NetRow, TopRow};
+
+#[cfg(test)]
+mod tests;
