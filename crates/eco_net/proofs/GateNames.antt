@@ -1,10 +1,9 @@
 -- Computed nets by number and by name
-use Rattle.std.proofs.Common.{◌≡◌, ◌≢◌, ℕ, zero, suc, ◌+◌, ◌<◌, ◌≤◌, Bool, true, false, cond, List, [], ◌∷◌, ◌++◌, map, length, take, get_or, Option, Some, None, refl, sym, ap, ap₂, ◌∙◌, subst, arith, slice_get, inl, inr, ⊎_elim, true≢false, length-append, length-take}
-use Rattle.std.specs.List.{Contains}
-use Rattle.std.specs.Option.{option_map, unwrap_or}
+use Rattle.std.proofs.Common.{◌≡◌, ℕ, zero, suc, ◌+◌, ◌<◌, ◌≤◌, Bool, true, List, [], ◌∷◌, map, length, take, get_or, Option, Some, None, refl, sym, ap, ap₂, ◌∙◌, subst, arith, slice_get, inl, inr, ⊎_elim, true≢false}
+use Rattle.std.specs.Option.{option_map}
 use Rattle.std.specs.FinMap.{get}
-use Rattle.std.proofs.lemmas.Option.{slice_get_within, slice_get-get_or, get_or_from_slice_get}
-use Rattle.std.proofs.lemmas.List.{length-map, same_lists, get_or-map, get_or-take, length-take-le, get_or_default}
+use Rattle.std.proofs.lemmas.Option.{slice_get_within, get_or_from_slice_get}
+use Rattle.std.proofs.lemmas.List.{length-map, same_lists, get_or-map, get_or-take, length-take-le}
 use Rattle.eco_text.specs.declared.geometry.Dir.{Dir}
 use Rattle.eco_func.specs.Masters.{MasterTables}
 use Rattle.eco_net.specs.declared.kind.Kind.{Kind}
@@ -15,12 +14,12 @@ use Rattle.eco_net.specs.declared.rows.CompRow.{CompRow}
 use Rattle.eco_net.specs.declared.ids.CompId.{CompId}
 use Rattle.eco_net.specs.declared.ids.PinRef.{PinRef}
 use Rattle.eco_net.specs.declared.ids.PinRef.TheVariants.{Top, Pin}
-use Rattle.eco_net.specs.Netlist.{Name, Component, TopPin, CompPin, Role, Reads as Read, Computes, Outside, pins_of, role_of, inputs_of, input_names}
-use Rattle.eco_net.specs.Drivers.{driven, is_driving, IsDriver, Computed, IsComputed}
+use Rattle.eco_net.specs.Netlist.{Name, TopPin, CompPin, Role, Reads as Read, Computes, Outside, pins_of, role_of, inputs_of, input_names}
+use Rattle.eco_net.specs.Drivers.{is_driving, IsDriver, Computed, IsComputed}
 use Rattle.eco_net.specs.Walks.{ReadsNet}
-use Rattle.eco_net.specs.Listing.{Listing, netlist, component, pins, kind_of, net_name, pin_named, IsKnownPin, HasPin, pin_at}
+use Rattle.eco_net.specs.Listing.{Listing, netlist, component, pins, kind_of, net_name, pin_named, IsKnownPin}
 use Rattle.eco_net.specs.Kept.{IsRow, IsListing}
-use Rattle.eco_net.specs.ByNumber.{role_at, drives, net_at, driver_at}
+use Rattle.eco_net.specs.ByNumber.{role_at, driver_at}
 use Rattle.eco_net.specs.Gates.{GatePin, by_kind, gate_at, gate_pin, unsupplied, computed_by, input_count, inputs_in, inputs_at, Reads}
 use Rattle.eco_net.proofs.Basics.{Has, same_Some, not_None, has_from_contains, contains_from_has, has_map, has_of_map}
 use Rattle.eco_net.proofs.Values.{one_table}
@@ -28,7 +27,7 @@ use Rattle.eco_net.proofs.AllPins.{split_has}
 use Rattle.eco_net.proofs.Decide.{same_comp, same_place}
 use Rattle.eco_net.proofs.Places.{at_place}
 use Rattle.eco_net.proofs.Named.{comp_is, net_is, role_is, joined_is, net_found}
-use Rattle.eco_net.proofs.PinNames.{PinRow, pin_row, pin_name_is, pin_role_is, net_name_is, same_net, drives_net}
+use Rattle.eco_net.proofs.PinNames.{PinRow, pin_row, pin_name_is, pin_role_is, net_name_is, same_net}
 use Rattle.eco_net.proofs.DriverNames.{driver_named, driver_number, driver_drives}
 use Rattle.eco_net.proofs.KindPins.{input_at}
 use Rattle.eco_net.proofs.MasterPins.{gate_length}

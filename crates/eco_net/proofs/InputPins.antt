@@ -1,5 +1,5 @@
 -- What the gate of a computed net reads, by its pins
-use Rattle.std.proofs.Common.{◌≡◌, ℕ, zero, suc, ◌<◌, ◌≤◌, List, [], ◌∷◌, length, take, Option, Some, None, refl, sym, ap, ◌∙◌, subst, arith, slice_get, length-take}
+use Rattle.std.proofs.Common.{◌≡◌, ℕ, zero, suc, ◌<◌, List, [], ◌∷◌, take, Some, sym, ap, ◌∙◌, subst, arith, slice_get}
 use Rattle.eco_net.specs.declared.rows.CompRow.{CompRow}
 use Rattle.eco_net.specs.Listing.{Listing}
 use Rattle.eco_net.specs.Gates.{GatePin, computed_by, input_count, inputs_in, inputs_at, Reads}

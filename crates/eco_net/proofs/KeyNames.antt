@@ -1,5 +1,5 @@
 -- The cut key of a net by number and by name
-use Rattle.std.proofs.Common.{◌≡◌, ◌≢◌, ℕ, zero, suc, ◌+◌, ◌<◌, Bool, true, false, List, [], ◌∷◌, ◌++◌, map, length, drop, Option, Some, None, refl, sym, ap, ap₂, ◌∙◌, subst, arith, slice_get, inl, inr, ⊎_elim, true≢false}
+use Rattle.std.proofs.Common.{◌≡◌, ℕ, zero, suc, ◌+◌, ◌<◌, Bool, true, false, [], ◌∷◌, map, length, drop, Option, Some, None, refl, sym, ap, ap₂, ◌∙◌, subst, arith, slice_get, inl, inr, true≢false}
 use Rattle.std.specs.List.{filter_map, range_with_len, cons_option}
 use Rattle.std.specs.FinMap.{get}
 use Rattle.std.proofs.lemmas.List.{drop_all, drop_more}
@@ -14,13 +14,13 @@ use Rattle.eco_net.specs.declared.ids.TopId.{TopId}
 use Rattle.eco_net.specs.declared.ids.PinRef.{PinRef}
 use Rattle.eco_net.specs.declared.ids.PinRef.TheVariants.{Top as TopNumber, Pin as PinNumber}
 use Rattle.eco_net.specs.declared.cut.CutKey.{CutKey as KeyNumber}
-use Rattle.eco_net.specs.declared.cut.CutKey.TheVariants.{Top, Boxed, Net}
-use Rattle.eco_net.specs.Netlist.{Name, Netlist, Pin, Role, Reads, Computes, Outside, pins_of, role_of}
-use Rattle.eco_net.specs.Drivers.{is_driving, IsDriver, IsComputed, IsFree}
-use Rattle.eco_net.specs.CutKeys.{PinKey, NetKey, KeyOf, CutKey, is_source_pin, is_source_top, is_source_at, is_source, is_input}
-use Rattle.eco_net.specs.Listing.{Listing, netlist, net_name, net_names, pin_named, IsKnownPin, pins, kind_of}
+use Rattle.eco_net.specs.declared.cut.CutKey.TheVariants.{Net}
+use Rattle.eco_net.specs.Netlist.{Netlist, Role, Reads, Computes, Outside, pins_of}
+use Rattle.eco_net.specs.Drivers.{is_driving, IsComputed, IsFree}
+use Rattle.eco_net.specs.CutKeys.{PinKey, NetKey, KeyOf, is_source_pin, is_source_top, is_source_at, is_source, is_input}
+use Rattle.eco_net.specs.Listing.{Listing, netlist, net_names, pin_named, pins, kind_of}
 use Rattle.eco_net.specs.Kept.{IsListing}
-use Rattle.eco_net.specs.ByNumber.{role_at, driver_at}
+use Rattle.eco_net.specs.ByNumber.{driver_at}
 use Rattle.eco_net.specs.Gates.{by_kind, gate_at, gate_pin, unsupplied}
 use Rattle.eco_net.specs.KeysOf.{key_named, KeysAlong, key_by_dir, key_by_top, key_by_role, key_by_driver, unless_supply, key_of_row, key_at, keys_of}
 use Rattle.eco_net.proofs.Basics.{Has, same_Some, not_None}

@@ -1,13 +1,13 @@
 -- What an order and a ring say of loops
-use Rattle.std.proofs.Common.{◌≡◌, ◌≢◌, ℕ, zero, suc, ◌<◌, Bool, true, false, cond, List, [], ◌∷◌, map, length, Option, Some, None, refl, sym, ap, ap₂, ◌∙◌, subst, arith, inl, inr, ⊎_elim, ◌⊎◌}
+use Rattle.std.proofs.Common.{◌≡◌, ◌≢◌, ℕ, suc, ◌<◌, cond, List, [], ◌∷◌, map, length, refl, sym, ap, subst, arith, inl, inr, ⊎_elim, ◌⊎◌}
 use Rattle.std.specs.Ordering.{eq_by_cmp}
 use Rattle.eco_net.specs.Netlist.{Name, name_cmp}
 use Rattle.eco_net.specs.Walks.{ReadsNet, IsLoopFree, Onward}
-use Rattle.eco_net.specs.Listing.{Listing, netlist, net_name}
+use Rattle.eco_net.specs.Listing.{Listing, netlist}
 use Rattle.eco_net.specs.Kept.{IsListing}
 use Rattle.eco_net.specs.Gates.{Reads}
 use Rattle.eco_net.specs.Search.{Settled, IsOrder, Around, IsRing}
-use Rattle.eco_net.proofs.Basics.{Has, same_name, cmp_itself, cmp_apart}
+use Rattle.eco_net.proofs.Basics.{Has, cmp_itself, cmp_apart}
 use Rattle.eco_net.proofs.GateNames.{nm, reads_named, named_reads, number_of, computed_known}
 use Rattle.eco_net.proofs.Searching.{same_number}
 use Rattle.eco_net.proofs.PinNames.{same_net}

@@ -1,5 +1,5 @@
 -- A ring of nets from the least name on is a closed walk as it is reported
-use Rattle.std.proofs.Common.{◌≡◌, ◌≢◌, ℕ, zero, suc, ◌+◌, ◌<◌, Bool, true, false, List, [], ◌∷◌, ◌++◌, map, length, take, drop, get_or, Option, Some, None, refl, sym, ap, ap₂, ◌∙◌, subst, arith, slice_get, inl, inr, ⊎_elim, ◌⊎◌, nat_eq, Ordering, Less, Equal, Greater, true≢false}
+use Rattle.std.proofs.Common.{◌≡◌, ◌≢◌, ℕ, ◌+◌, ◌<◌, true, false, List, [], ◌∷◌, ◌++◌, map, length, take, drop, get_or, refl, sym, ap, ◌∙◌, subst, arith, inl, inr, ⊎_elim, nat_eq, Ordering, Less, Equal, Greater, true≢false}
 use Rattle.std.specs.List.{IsDistinct, Contains, AllByRecursion, All}
 use Rattle.std.specs.Ordering.{eq_by_cmp, ordering_reverse, is_lt}
 use Rattle.std.specs.Cmp.{nat_eq_equiv, tied_itself}
@@ -10,12 +10,10 @@ use Rattle.std.proofs.lemmas.List.Sorted.{IsPermutation-append_comm}
 use Rattle.std.proofs.lemmas.List.Elements.{Contains-get_or}
 use Rattle.std.proofs.lemmas.List.{append-nil}
 use Rattle.std.proofs.lemmas.Option.{slice_get-get_or, get_or_from_slice_get, slice_get_within}
-use Rattle.std.proofs.lemmas.Bool.{eqb-true, eq-eqb}
 use Rattle.eco_net.specs.Netlist.{Name, name_cmp}
 use Rattle.eco_net.specs.Walks.{IsClosedWalk}
 use Rattle.eco_net.specs.Listing.{Listing, netlist, net_name}
 use Rattle.eco_net.specs.Kept.{IsListing}
-use Rattle.eco_net.specs.Gates.{Reads}
 use Rattle.eco_net.specs.Search.{Around, IsRing}
 use Rattle.eco_net.specs.Rings.{IsLeastAt}
 use Rattle.eco_net.proofs.Basics.{Has, has_from_contains, has_of_map, has_append_left, has_append_right, cmp_apart}

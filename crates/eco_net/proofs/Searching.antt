@@ -1,7 +1,7 @@
 -- What each step of a search keeps
-use Rattle.std.proofs.Common.{◌≡◌, ◌≢◌, ℕ, zero, suc, ◌+◌, ◌<◌, ◌≤◌, Bool, true, false, List, [], ◌∷◌, ◌++◌, length, Option, Some, None, refl, sym, ap, ap₂, ◌∙◌, subst, arith, slice_get, slice_set, get_or, inl, inr, ⊎_elim, ◌⊎◌, length-set, sum_by, nat_eq, reverse, append_assoc, true≢false, ◌||◌}
+use Rattle.std.proofs.Common.{◌≡◌, ◌≢◌, ℕ, zero, suc, ◌<◌, Bool, true, false, List, [], ◌∷◌, ◌++◌, Some, refl, sym, ap, ◌∙◌, subst, arith, slice_get, slice_set, get_or, inl, inr, ⊎_elim, ◌⊎◌, length-set, sum_by, nat_eq, reverse, true≢false, ◌||◌}
 use Rattle.std.specs.List.{IsDistinct, list_any, AllByRecursion}
-use Rattle.std.specs.Cmp.{IsEquivalence, nat_eq_equiv}
+use Rattle.std.specs.Cmp.{nat_eq_equiv}
 use Rattle.std.proofs.lemmas.Map.Keys.{IsDistinct-push}
 use Rattle.std.proofs.lemmas.List.Sums.{sum_by-set}
 use Rattle.std.proofs.lemmas.List.{reverse-append}
@@ -10,10 +10,10 @@ use Rattle.std.proofs.lemmas.Option.{slice_get_within, get_or_from_slice_get}
 use Rattle.eco_net.specs.declared.search.Mark.{Mark}
 use Rattle.eco_net.specs.declared.search.Mark.TheVariants.{Unseen, Open, Done}
 use Rattle.eco_net.specs.Listing.{Listing}
-use Rattle.eco_net.specs.Gates.{GatePin, computed_by, Reads}
+use Rattle.eco_net.specs.Gates.{Reads}
 use Rattle.eco_net.specs.Among.{Has}
-use Rattle.eco_net.specs.Search.{IsMark, weight, IsComputedNet, ChainFrom, Chain, Settled, IsSearch, IsOrder, Stays, Around, IsRing, EndsWith}
-use Rattle.eco_net.proofs.Basics.{same_Some, not_None, same_head, has_append_left, has_append_right}
+use Rattle.eco_net.specs.Search.{IsMark, weight, IsComputedNet, ChainFrom, Chain, Settled, IsSearch, Stays, Around}
+use Rattle.eco_net.proofs.Basics.{same_Some, not_None, has_append_left, has_append_right}
 use Rattle.eco_net.proofs.AllPins.{split_has}
 
 -- ---- marks

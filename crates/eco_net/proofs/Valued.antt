@@ -1,30 +1,29 @@
 -- Values by number that meet each net's equation are the valuation by names
-use Rattle.std.proofs.Common.{◌≡◌, ◌≢◌, ℕ, zero, suc, ◌+◌, ◌<◌, Bool, true, false, cond, List, [], ◌∷◌, map, length, get_or, Option, Some, None, refl, sym, ap, ap₂, ◌∙◌, subst, arith, slice_get, inl, inr, ⊎_elim, ◌⊎◌, is_some, true≢false, is_eq}
+use Rattle.std.proofs.Common.{◌≡◌, ◌≢◌, ℕ, zero, suc, ◌+◌, ◌<◌, Bool, true, false, cond, List, [], ◌∷◌, map, length, get_or, Option, Some, None, refl, sym, ap, ap₂, ◌∙◌, subst, arith, slice_get, is_some, is_eq}
 use Rattle.std.specs.List.{filter_map, range_with_len, zip, cons_option}
 use Rattle.std.specs.Option.{option_map, unwrap_or}
 use Rattle.std.specs.Ordering.{eq_by_cmp}
 use Rattle.std.specs.Cmp.{Equal-is, tied_itself}
 use Rattle.std.specs.Cmp.Lexicographic.{nat_list_cmp_total}
-use Rattle.std.specs.FinMap.{get, from_entries, find, get-from_entries, contains_key}
+use Rattle.std.specs.FinMap.{get, find, get-from_entries, contains_key}
 use Rattle.std.proofs.lemmas.List.{length-map}
 use Rattle.std.proofs.lemmas.Option.{slice_get_within, slice_get-get_or}
 use Rattle.eco_net.specs.declared.rows.NetRow.{NetRow}
 use Rattle.eco_net.specs.declared.cut.CutKey.{CutKey as KeyNumber}
-use Rattle.eco_net.specs.Netlist.{Name, name_cmp, Netlist, Computes}
-use Rattle.eco_net.specs.Drivers.{IsDriver, Computed, IsComputed, IsFree}
+use Rattle.eco_net.specs.Netlist.{Name, Netlist}
+use Rattle.eco_net.specs.Drivers.{Computed, IsComputed, IsFree}
 use Rattle.eco_net.specs.CutKeys.{CutKey, PinKey, NetKey, KeyOf, key_cmp}
-use Rattle.eco_net.specs.Valuation.{Valuation, IsValuation, look, read}
-use Rattle.eco_net.specs.Listing.{Listing, netlist, net_names, net_name}
-use Rattle.eco_net.specs.Kept.{IsListing, IsRow}
-use Rattle.eco_net.specs.ByNumber.{role_at, driver_at}
-use Rattle.eco_net.specs.Gates.{GatePin, computed_by, gate_pin, unsupplied, inputs_in, inputs_at, input_count}
+use Rattle.eco_net.specs.Valuation.{IsValuation, look, read}
+use Rattle.eco_net.specs.Listing.{Listing, netlist, net_names}
+use Rattle.eco_net.specs.Kept.{IsListing}
+use Rattle.eco_net.specs.Gates.{GatePin, computed_by, inputs_in, inputs_at, input_count}
 use Rattle.eco_net.specs.KeysOf.{key_at, keys_of, key_named}
 use Rattle.eco_net.specs.ValuesOf.{valuation, cut_bits, keys_before, start_by, start_row, start, bit_of, by_role, computes, IsValued}
 use Rattle.eco_net.proofs.Basics.{Has, same_Some, not_None, map_agree}
 use Rattle.eco_net.proofs.Places.{at_place, row_of_name, name_of_row}
 use Rattle.eco_net.proofs.Named.{net_is, net_found, find_at, found_at}
 use Rattle.eco_net.proofs.PinNames.{net_name_is, same_net}
-use Rattle.eco_net.proofs.GateNames.{nm, gate_is, GateIs, computed_named, named_computed, is_computed, number_of, at_has}
+use Rattle.eco_net.proofs.GateNames.{nm, gate_is, GateIs, computed_named, named_computed, is_computed, at_has}
 use Rattle.eco_net.proofs.InputPins.{taken_at}
 use Rattle.eco_net.proofs.Keys.{key_cmp_total, key_cmp-IsAntisymmetric}
 use Rattle.eco_net.proofs.KeyNames.{keyed, unkeyed}

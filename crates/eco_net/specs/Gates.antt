@@ -1,5 +1,5 @@
 -- Computed nets by number: the gate that drives each, and the nets that it reads.
-use Rattle.std.specs.Prelude.{◌≡◌, ℕ, List, [], ◌∷◌, length, take, Option, Some, None, slice_get}
+use Rattle.std.specs.Prelude.{◌≡◌, ℕ, List, [], length, take, Option, Some, None, slice_get}
 use Rattle.std.specs.List.{Contains}
 use Rattle.eco_net.specs.declared.kind.Kind.{Kind}
 use Rattle.eco_net.specs.declared.kind.Kind.TheVariants.{Gate, Boxed}

@@ -1,5 +1,5 @@
 -- The least name of a ring of nets.
-use Rattle.std.specs.Prelude.{◌≡◌, ◌≢◌, ℕ, ◌<◌, List, slice_index}
+use Rattle.std.specs.Prelude.{◌≢◌, ℕ, ◌<◌, List, slice_index}
 use Rattle.std.specs.declared.cmp.Ordering.TheVariants.{Greater}
 use Rattle.eco_net.specs.declared.rows.NetRow.{NetRow}
 use Rattle.eco_net.specs.Netlist.{name_cmp}

@@ -1,6 +1,6 @@
 -- A search through computed nets, and what it finds: an order in which each net stands after those that its driver reads,
 -- or nets in a ring.
-use Rattle.std.specs.Prelude.{◌≡◌, ℕ, List, [], ◌∷◌, ◌++◌, length, Some, None, slice_get, nat_eq, ◌↔◌}
+use Rattle.std.specs.Prelude.{◌≡◌, ℕ, List, [], ◌∷◌, ◌++◌, length, Some, slice_get, nat_eq, ◌↔◌}
 use Rattle.std.specs.List.{IsDistinct}
 use Rattle.eco_net.specs.declared.search.Mark.{Mark}
 use Rattle.eco_net.specs.declared.search.Mark.TheVariants.{Unseen, Open, Done}

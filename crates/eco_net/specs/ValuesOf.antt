@@ -1,5 +1,5 @@
 -- The values of a listing's nets, by number and by name.
-use Rattle.std.specs.Prelude.{◌≡◌, ℕ, Bool, false, List, [], ◌∷◌, map, length, Option, Some, None, slice_get, slice_index_or}
+use Rattle.std.specs.Prelude.{◌≡◌, ℕ, Bool, false, List, map, length, Option, Some, None, slice_get, slice_index_or}
 use Rattle.std.specs.List.{filter_map, range_with_len, zip}
 use Rattle.std.specs.FinMap.{from_entries}
 use Rattle.eco_net.specs.declared.rows.NetRow.{NetRow}

@@ -1,4 +1,4 @@
-use Rattle.std.proofs.Common.{◌≡◌, ◌<◌, ◌∙◌, ap, sym, Some, length, drop, arith}
+use Rattle.std.proofs.Common.{◌<◌, ◌∙◌, ap, Some, length}
 use Rattle.std.proofs.lemmas.Option.{slice_get-get_or}
 use Rattle.eco_net.proofs.SearchPaths.{dropped_within}
 use Rattle.eco_net.proofs.search.place_of.Goals as goal

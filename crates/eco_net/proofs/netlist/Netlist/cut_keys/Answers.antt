@@ -1,9 +1,9 @@
-use Rattle.std.proofs.Common.{◌≡◌, ◌∙◌, ◌++◌, ◌∷◌, [], ap, ap₂, sym, subst, map, length, List, arith}
+use Rattle.std.proofs.Common.{◌≡◌, ◌∙◌, ◌++◌, [], ap, ap₂, sym, subst, map, length, List, arith}
 use Rattle.std.proofs.lemmas.List.{append-nil}
 use Rattle.std.specs.List.{filter_map, range_with_len, cons_option}
 use Rattle.eco_net.specs.declared.cut.CutKey.{CutKey}
 use Rattle.eco_net.specs.Listing.{netlist, net_names}
-use Rattle.eco_net.specs.KeysOf.{key_at, keys_of, key_named, KeysAlong}
+use Rattle.eco_net.specs.KeysOf.{key_at, key_named, KeysAlong}
 use Rattle.eco_net.proofs.Ranges.{filter_map_range}
 use Rattle.eco_net.proofs.KeyNames.{keys_along}
 use Rattle.eco_net.proofs.netlist.Netlist.cut_keys.Goals as goal

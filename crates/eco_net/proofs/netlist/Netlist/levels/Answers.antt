@@ -1,9 +1,8 @@
-use Rattle.std.proofs.Common.{◌≡◌, ◌∙◌, ◌<◌, ◌++◌, sym, subst, map, take, drop, length, List, ℕ}
+use Rattle.std.proofs.Common.{◌≡◌, ◌<◌, ◌++◌, sym, subst, map, take, drop, length, List, ℕ}
 use Rattle.std.specs.List.{All}
 use Rattle.eco_net.specs.Walks.{IsClosedWalk}
 use Rattle.eco_net.specs.Listing.{netlist, net_name}
 use Rattle.eco_net.specs.Search.{IsOrder, IsRing, StopIs}
-use Rattle.eco_net.specs.LevelsOf.{IsLevels}
 use Rattle.eco_net.specs.Rings.{IsLeastAt}
 use Rattle.eco_net.proofs.Orders.{order_loop_free}
 use Rattle.eco_net.proofs.Rotated.{all_of, ring_known, closed_walk}

@@ -1,9 +1,9 @@
-use Rattle.std.proofs.Common.{◌≡◌, ◌<◌, ◌∙◌, ap, sym, subst, Some, None, ℕ, slice_get, arith, false, true, true≢false, length, ⊎_elim, is_some}
+use Rattle.std.proofs.Common.{◌≡◌, ◌<◌, ◌∙◌, ap, sym, subst, Some, slice_get, arith, true≢false, length, ⊎_elim, is_some}
 use Rattle.std.proofs.lemmas.Option.{slice_get-get_or, get_or_from_slice_get}
 use Rattle.eco_net.specs.declared.search.Mark.TheVariants.{Unseen, Done}
 use Rattle.eco_net.specs.Listing.{Listing}
 use Rattle.eco_net.specs.Gates.{GatePin, computed_by}
-use Rattle.eco_net.specs.Search.{IsMark, IsComputedNet}
+use Rattle.eco_net.specs.Search.{IsMark}
 use Rattle.eco_net.proofs.Basics.{same_Some, not_None}
 use Rattle.eco_net.proofs.GateNames.{computed_known}
 use Rattle.eco_net.proofs.KindPins.{some_of}

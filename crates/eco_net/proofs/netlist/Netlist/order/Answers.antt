@@ -1,4 +1,4 @@
-use Rattle.std.proofs.Common.{◌≡◌, ◌∙◌, ◌<◌, [], ap, sym, subst, ℕ, length, arith, ⊎_elim, replicate, List}
+use Rattle.std.proofs.Common.{◌≡◌, ◌∙◌, [], ap, sym, subst, length, arith, ⊎_elim, replicate}
 use Rattle.eco_net.specs.declared.search.Mark.{Mark}
 use Rattle.eco_net.specs.declared.search.Mark.TheVariants.{Unseen}
 use Rattle.eco_net.specs.Listing.{Listing}

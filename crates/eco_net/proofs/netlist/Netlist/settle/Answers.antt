@@ -1,4 +1,4 @@
-use Rattle.std.proofs.Common.{◌≡◌, ◌∙◌, ◌++◌, ◌∷◌, [], ap, sym, subst, slice_set, List, ℕ}
+use Rattle.std.proofs.Common.{◌++◌, ◌∷◌, [], sym, subst, slice_set, List, ℕ}
 use Rattle.eco_net.specs.declared.search.Mark.TheVariants.{Unseen, Open}
 use Rattle.eco_net.specs.Search.{IsMark, IsSearch, Stays, Chain}
 use Rattle.eco_net.proofs.Searching.{entered, set_stays, mark_same, one_mark, open_unseen}

@@ -1,4 +1,4 @@
-use Rattle.std.proofs.Common.{sum_by, ◌≡◌}
+use Rattle.std.proofs.Common.{sum_by}
 use Rattle.eco_net.specs.declared.search.Mark.TheVariants.{Unseen}
 use Rattle.eco_net.specs.Search.{IsMark, IsSearch, Stays, weight}
 use Rattle.eco_net.proofs.netlist.Netlist.settle.Given as goal

@@ -1,6 +1,5 @@
-use Rattle.std.proofs.Common.{◌≡◌, ◌<◌, ◌∙◌, ◌++◌, ◌∷◌, [], ap, sym, refl, subst, Some, ℕ, List, slice_get, slice_set, arith, length, sum_by, false, true, true≢false}
+use Rattle.std.proofs.Common.{◌<◌, ◌∙◌, ◌++◌, ◌∷◌, [], ap, sym, refl, subst, Some, ℕ, slice_set, arith, length, sum_by, true≢false}
 use Rattle.std.proofs.lemmas.Option.{slice_get_read}
-use Rattle.eco_net.specs.declared.search.Mark.{Mark}
 use Rattle.eco_net.specs.declared.search.Mark.TheVariants.{Unseen, Open, Done}
 use Rattle.eco_net.specs.Gates.{Reads}
 use Rattle.eco_net.specs.Among.{Has}

@@ -1,4 +1,4 @@
-use Rattle.std.proofs.Common.{◌≡◌, ◌∙◌, ◌<◌, ap, sym, refl, Some, length, arith, not}
+use Rattle.std.proofs.Common.{◌∙◌, ◌<◌, ap, sym, refl, Some, length, arith, not}
 use Rattle.std.proofs.lemmas.Option.{slice_get_read}
 use Rattle.eco_net.proofs.KindPins.{some_of}
 use Rattle.eco_net.proofs.netlist.Netlist.visit.Goals as goal
