@@ -12,7 +12,7 @@ fn inverter(alloc: Global) -> Result<MasterFn, Fail> {
     let pin = Name::of(alloc, b"Y")?;
     outputs.push(OutputFn { pin, table })?;
     let name = Name::of(alloc, b"INV")?;
-    Ok(MasterFn::new(name, inputs, outputs).ok_or("no master")?)
+    Ok(MasterFn::new(alloc, name, inputs, outputs)?.ok_or("no master")?)
 }
 
 /// Adds a net, if its name is new.
