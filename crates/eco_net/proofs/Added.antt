@@ -15,7 +15,7 @@ use Rattle.eco_net.specs.Kept.{IsKind, IsRow, IsIndexOf, IsIndexed}
 use Rattle.eco_net.proofs.Basics.{same_Some, not_None}
 use Rattle.eco_net.proofs.Places.{push_cases, apart_nil, apart_push, index_nil, index_push, apart_index, not_a_row}
 
-abbrev nothing : Listing
+abbrev pub nothing : Listing
 nothing = record { nets = []; comps = []; tops = []; reserved = [] }
 
 pub indexed_nothing : IsIndexed nothing empty empty empty
