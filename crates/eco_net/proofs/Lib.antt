@@ -13,7 +13,9 @@ pub mod Places
 pub mod MasterPins
 pub mod Added
 pub mod Named
+pub mod Changed
 pub mod PinNames
+pub mod Effects
 pub mod AllPins
 pub mod DriverNames
 pub mod ByNets

@@ -8,6 +8,7 @@ pub mod Depth
 pub mod Laws
 pub mod Index
 pub mod Listing
+pub mod Changes
 pub mod PinOrder
 pub mod ByNumber
 pub mod Kept

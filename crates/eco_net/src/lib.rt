@@ -4,6 +4,7 @@
 //! added. The specifications speak of names; a listing says which name each number has.
 #![tactic(auto)]
 
+mod copies;
 mod cut;
 mod gates;
 mod ids;
