@@ -4,7 +4,9 @@ use crate::netlist::Netlist;
 use crate::search::Stop;
 use eco_func::{Memory, Name};
 use std::alloc::Global;
+use std::fmt::{self, Display, Formatter, Write};
 use std::marker::Model;
+use thiserror::Error;
 
 /// The computed nets of a loop-free netlist, each after all computed nets that its driver reads.
 #[derive(Drop)]
@@ -21,7 +23,7 @@ impl Model for Levels {
 }
 
 /// Names of nets.
-#[derive(Drop)]
+#[derive(Debug, Drop)]
 pub struct Names {
     pub(crate) names: Vec<Name>,
 }
@@ -45,12 +47,28 @@ impl Names {
     }
 }
 
+/// The names with `,` between them.
+impl Display for Names {
+    fn fmt<W: Write>(&self, f: &mut Formatter<W>) -> fmt::Result {
+        for (place, name) in self.names.iter().enumerate() {
+            if 0 < place {
+                f.write_str(",")?;
+            }
+            write!(f, "{name}")?;
+        }
+        Ok(())
+    }
+}
+
 /// Why a netlist has no levels.
-#[derive(Drop)]
+#[derive(Debug, Drop, Error)]
 pub enum LoopFault {
     /// A closed walk of computed nets: each stands once and is read by the driver of the next, the last by that of the
     /// first, which is the least by bytes.
+    #[error("Loop nets={nets}")]
     Loop { nets: Names },
+    /// Want of memory.
+    #[error("memory")]
     Memory,
 }
 
