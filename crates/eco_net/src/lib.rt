@@ -15,10 +15,12 @@ mod laws;
 mod levels;
 mod maker;
 mod netlist;
+mod observables;
 mod pins;
 mod reading;
 mod rows;
 mod search;
+mod sinks;
 mod walk;
 
 pub use crate::cut::{CutKey, CutValues};
