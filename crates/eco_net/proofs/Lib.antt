@@ -27,5 +27,8 @@ pub mod Rotated
 pub mod Ranges
 pub mod KeyNames
 pub mod Valued
+pub mod InOrder
+pub mod DepthNumbers
+pub mod DepthNames
 mod Examples
 mod Loops

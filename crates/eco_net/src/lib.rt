@@ -5,6 +5,7 @@
 #![tactic(auto)]
 
 mod cut;
+mod depth;
 mod gates;
 mod ids;
 mod index;
