@@ -1,7 +1,7 @@
 pub mod Basics
 pub mod Decide
 pub mod Grounded
-pub mod Values
+pub mod Solved
 pub mod One
 pub mod Keys
 pub mod Choices
@@ -28,6 +28,8 @@ pub mod Ranges
 pub mod KeyNames
 pub mod Valued
 pub mod InOrder
+pub mod GateTables
+pub mod KeyCounts
 pub mod DepthNumbers
 pub mod DepthNames
 mod Examples

@@ -6,6 +6,7 @@
 
 mod cut;
 mod depth;
+mod evaluation;
 mod gates;
 mod ids;
 mod index;
@@ -22,6 +23,7 @@ mod search;
 mod walk;
 
 pub use crate::cut::{CutKey, CutValues};
+pub use crate::evaluation::Values;
 pub use crate::ids::{CompId, Counts, NetId, PinRef, TopId};
 pub use crate::kind::{BoxPin, BoxPins, Kind};
 pub use crate::laws::{
