@@ -3,6 +3,7 @@ pub mod NewNets
 pub mod PlainBases
 pub mod OneGates
 pub mod OneLaws
+pub mod GateBases
 pub mod Overlays
 pub mod Moving
 pub mod PinMoves

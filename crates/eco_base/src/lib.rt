@@ -5,6 +5,7 @@ mod bytes;
 mod coming;
 mod fault;
 mod fresh;
+mod gate_base;
 mod issuing;
 mod laws;
 mod moves;
@@ -23,6 +24,7 @@ mod stretch;
 mod writer;
 
 pub use crate::fault::MoveFault;
+pub use crate::gate_base::GateBase;
 pub use crate::laws::{one_gate_applies, same_joints};
 pub use crate::moving::move_joint;
 pub use crate::new_joint::NewJoint;
