@@ -12,6 +12,7 @@ mod joints;
 mod kind;
 mod laws;
 mod levels;
+mod listed;
 mod maker;
 mod netlist;
 mod pins;
