@@ -168,7 +168,7 @@ module _ (kinds : Kinds) where
         }
 
 -- an item of the front stands at a place of it
-in_front : {A : Type 0} (xs : List A) (i : ℕ) (a : A) → Has (take i xs) a → (k : ℕ) × (k < i) × (slice_get xs k ≡ Some a)
+pub in_front : {A : Type 0} (xs : List A) (i : ℕ) (a : A) → Has (take i xs) a → (k : ℕ) × (k < i) × (slice_get xs k ≡ Some a)
 in_front [] zero a h = absurd h
 in_front [] (suc i) a h = absurd h
 in_front (x ∷ xs) zero a h = absurd h
