@@ -11,6 +11,14 @@ pub mod Rewiring
 pub mod Telling
 pub mod Keeping
 pub mod Joinable
+pub mod Fillers
+pub mod Adding
+pub mod AddingTops
+pub mod Valued
+pub mod Stating
+pub mod FindingPins
+pub mod JoiningPins
+pub mod Assembling
 pub mod ReadOnce
 pub mod Unchanged
 mod Examples

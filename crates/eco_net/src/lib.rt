@@ -15,6 +15,7 @@ mod joints;
 mod kind;
 mod laws;
 mod levels;
+mod listed;
 mod maker;
 mod netlist;
 mod observables;
