@@ -98,7 +98,8 @@ impl Netlist {
         Ok(values)
     }
 
-    /// The value of each net, with these levels of this netlist and a bit for each cut key, in the order of `cut_keys`.
+    /// The one valuation at these cut bits. The levels are those of this netlist, and there is a bit for each of its
+    /// `cut_keys`, in their order. It fails only for want of memory.
     pub fn value_all(
         &self,
         alloc: Global,
