@@ -25,7 +25,7 @@ fn master(rt: &impl Abort, alloc: Global, inputs: u8, texts: &[&str]) -> Result<
             table: table(rt, inputs, text),
         })?;
     }
-    let made = MasterFn::new(Name::of(alloc, b"M")?, names, outputs);
+    let made = MasterFn::new(alloc, Name::of(alloc, b"M")?, names, outputs)?;
     Ok(made.expect(rt, "a master"))
 }
 

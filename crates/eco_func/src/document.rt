@@ -254,7 +254,7 @@ fn read_master(alloc: Global, name: &str, value: &Value) -> Result<MasterFn, Fun
         return Err(bad_field(alloc, bytes, key.as_bytes()));
     }
     let name = Name::of(alloc, bytes)?;
-    Ok(MasterFn::of(name, inputs, outputs))
+    Ok(MasterFn::of(alloc, name, inputs, outputs)?)
 }
 
 /// All masters, in the order of the document.

@@ -10,16 +10,25 @@ use crate::name::Name;
 use crate::output::OutputFn;
 use std::alloc::Global;
 use std::marker::Model;
+use std::sync::Arc;
 
 /// A master: its name, its input pins in order, and its outputs with their tables.
+///
+/// Copies share one record, so that a netlist may have one for each of its components.
 #[derive(Drop)]
 pub struct MasterFn {
+    parts: Arc<MasterParts>,
+}
+
+/// What the copies of a master share.
+#[derive(Drop)]
+struct MasterParts {
     name: Name,
     inputs: Vec<Name>,
     outputs: Vec<OutputFn>,
 }
 
-impl Model for MasterFn {
+impl Model for MasterParts {
     ghost use Rattle.std.specs.Prelude.{IsTrue};
     ghost use Rattle.eco_func.specs.Masters.{MasterTables, is_master};
 
@@ -30,49 +39,62 @@ impl Model for MasterFn {
     ghost invariant = { λ m. IsTrue (is_master m.inputs.items m.outputs.items) };
 }
 
+impl Model for MasterFn {
+    ghost use Rattle.std.specs.Arc.{arc_value};
+    ghost use Rattle.eco_func.specs.Masters.{MasterTables};
+
+    ghost Value = { MasterTables };
+
+    ghost view = { λ m. arc_value m.parts };
+}
+
 impl MasterFn {
     ghost use Rattle.std.specs.Prelude.{◌≡◌, IsTrue, IfOk};
     ghost use Rattle.eco_func.specs.Masters.{is_master, master};
 
     /// The master with these pins, if they make one: at most six inputs, one to eight outputs, all pins of distinct
     /// names, and each output's table over all the inputs.
-    pub fn new(name: Name, inputs: Vec<Name>, outputs: Vec<OutputFn>) -> Option<MasterFn>
-        ensures { result ≡ master name inputs.items outputs.items }
+    pub fn new(
+        alloc: Global,
+        name: Name,
+        inputs: Vec<Name>,
+        outputs: Vec<OutputFn>,
+    ) -> Result<Option<MasterFn>, Memory>
+        ensures { IfOk result (λ made. made ≡ master name inputs.items outputs.items) }
     {
         if fit_together(&inputs, &outputs) {
-            Some(MasterFn {
-                name,
-                inputs,
-                outputs,
-            })
+            Ok(Some(MasterFn::of(alloc, name, inputs, outputs)?))
         } else {
-            None
+            Ok(None)
         }
     }
 
     /// The master with these pins, which make one.
-    pub(crate) fn of(name: Name, inputs: Vec<Name>, outputs: Vec<OutputFn>) -> MasterFn
+    pub(crate) fn of(
+        alloc: Global,
+        name: Name,
+        inputs: Vec<Name>,
+        outputs: Vec<OutputFn>,
+    ) -> Result<MasterFn, Memory>
         requires { IsTrue (is_master inputs.items outputs.items) }
-        ensures { result ≡ record { name = name; inputs = inputs.items; outputs = outputs.items } }
+        ensures { IfOk result (λ m. m ≡ record { name = name; inputs = inputs.items; outputs = outputs.items }) }
     {
-        MasterFn {
+        let parts = MasterParts {
             name,
             inputs,
             outputs,
-        }
+        };
+        Ok(MasterFn {
+            parts: Arc::new(alloc, parts)?,
+        })
     }
 
-    /// The same master.
-    pub fn copy(&self, alloc: Global) -> Result<MasterFn, Memory>
+    /// The same master. No memory is taken: `Memory` comes only where there are too many copies to be counted.
+    pub fn copy(&self) -> Result<MasterFn, Memory>
         ensures { IfOk result (λ m. m ≡ self.now) }
     {
-        let name = self.name.copy(alloc)?;
-        let inputs = copied_names(alloc, &self.inputs)?;
-        let outputs = copied_outputs(alloc, &self.outputs)?;
         Ok(MasterFn {
-            name,
-            inputs,
-            outputs,
+            parts: Arc::try_clone(&self.parts)?,
         })
     }
 
@@ -80,7 +102,7 @@ impl MasterFn {
     pub fn name(&self) -> &Name
         ensures { result.now ≡ self.now.name }
     {
-        &self.name
+        &self.parts.name
     }
 
     /// The input pins, in order.
@@ -88,7 +110,7 @@ impl MasterFn {
         ensures value { result.now ≡ self.now.inputs }
         ensures is_master { IsTrue (is_master self.now.inputs self.now.outputs) }
     {
-        &self.inputs
+        &self.parts.inputs
     }
 
     /// The output pins with their tables.
@@ -96,30 +118,8 @@ impl MasterFn {
         ensures value { result.now ≡ self.now.outputs }
         ensures is_master { IsTrue (is_master self.now.inputs self.now.outputs) }
     {
-        &self.outputs
+        &self.parts.outputs
     }
-}
-
-/// Names of the same bytes.
-fn copied_names(alloc: Global, names: &[Name]) -> Result<Vec<Name>, Memory>
-    ensures { IfOk result (λ copied. copied.items ≡ names.now) }
-{
-    let mut copied = Vec::new(alloc);
-    for name in names {
-        copied.push(name.copy(alloc)?)?;
-    }
-    Ok(copied)
-}
-
-/// Outputs of the same pins and tables.
-fn copied_outputs(alloc: Global, outputs: &[OutputFn]) -> Result<Vec<OutputFn>, Memory>
-    ensures { IfOk result (λ copied. copied.items ≡ outputs.now) }
-{
-    let mut copied = Vec::new(alloc);
-    for output in outputs {
-        copied.push(output.copy(alloc)?)?;
-    }
-    Ok(copied)
 }
 
 /// Whether inputs and outputs make a master.

@@ -45,7 +45,7 @@ fn functions_of_a_small_library(rt: HostRuntime) -> Result<(), Fail> {
     for (name, inputs, pin, bits) in masters {
         match functions.find(name.as_bytes()) {
             Some(master) => {
-                let master = master.copy(rt.alloc())?;
+                let master = master.copy()?;
                 assert!(rt; master.name().is(name.as_bytes()));
                 assert_eq!(rt; master.inputs().len(), inputs);
                 match master.outputs().first() {
@@ -88,89 +88,91 @@ fn output_said(alloc: Global, inputs: &str, output: &str) -> Result<String, Fail
     }
 }
 
+// Texts, and what is said of them.
+const FIRST_FAULTS: [(&str, &str); 26] = [
+    ("", "reads"),
+    ("# no masters\n", "reads"),
+    ("[A]\ninputs = []\noutputs = { Y = \"0\" }", "reads"),
+    ("[A", "BadToml"),
+    ("[A]\n[A]\n", "BadToml"),
+    ("A = 1", "BadField master=A field=inputs"),
+    ("[X]", "BadField master=X field=inputs"),
+    (
+        "[A]\noutputs = { Y = \"0\" }",
+        "BadField master=A field=inputs",
+    ),
+    ("[A]\ninputs = []", "BadField master=A field=outputs"),
+    (
+        "[A]\ninputs = []\noutputs = { Y = \"0\" }\nmore = 1",
+        "BadField master=A field=more",
+    ),
+    (
+        "[A]\ninputs = []\noutputs = { Y = \"0\" }\nz = 1\nb = 1",
+        "BadField master=A field=b",
+    ),
+    (
+        "[A]\ninputs = \"B\"\noutputs = { Y = \"10\" }",
+        "BadField master=A field=inputs",
+    ),
+    (
+        "[A]\ninputs = [1]\noutputs = { Y = \"10\" }",
+        "BadField master=A field=inputs",
+    ),
+    (
+        "[A]\ninputs = [\"B\", \"B\"]\noutputs = { Y = \"1000\" }",
+        "BadField master=A field=inputs",
+    ),
+    (
+        "[A]\ninputs = [\"B\", \"C\", \"D\", \"E\", \"F\", \"G\", \"B\"]\noutputs = {}",
+        "BadField master=A field=inputs",
+    ),
+    (
+        "[A]\ninputs = [\"B\", \"C\", \"D\", \"E\", \"F\", \"G\", \"H\"]\noutputs = {}",
+        "TooManyInputs master=A",
+    ),
+    (
+        "[A]\ninputs = [\"Y\"]\noutputs = { Y = \"10\" }",
+        "BadField master=A field=outputs",
+    ),
+    (
+        "[A]\ninputs = [\"B\"]\noutputs = {}",
+        "BadField master=A field=outputs",
+    ),
+    (
+        "[A]\ninputs = [\"B\"]\noutputs = { Y = 10 }",
+        "BadField master=A field=outputs",
+    ),
+    (
+        "[A]\ninputs = [\"B\", \"C\"]\noutputs = { Y = \"111\" }",
+        "BadTable master=A output=Y",
+    ),
+    (
+        "[A]\ninputs = [\"B\"]\noutputs = { Y = \"\" }",
+        "BadTable master=A output=Y",
+    ),
+    (
+        "[A]\ninputs = [\"B\"]\noutputs = { Y = \"B\", Z = \"B C\", X = \"B |\" }",
+        "BadExpression master=A output=X place=3",
+    ),
+    (
+        "[A]\ninputs = [\"B\"]\noutputs = { Y = \"B & D & C\" }",
+        "UnknownInput master=A output=Y input=D",
+    ),
+    // The first fault by bytes: B before a; of a master inputs, then outputs, then other fields.
+    ("[a]\n[B]\ninputs = []", "BadField master=B field=outputs"),
+    (
+        "[A]\nextra = 1\ninputs = [\"B\"]\noutputs = { Y = \"1\" }",
+        "BadTable master=A output=Y",
+    ),
+    (
+        "[A]\ninputs = [\"B\"]\noutputs = { B = \"1\", A = \"\" }",
+        "BadField master=A field=outputs",
+    ),
+];
+
 #[test]
 fn the_first_fault_of_a_text(rt: HostRuntime) -> Result<(), Fail> {
-    let texts = [
-        ("", "reads"),
-        ("# no masters\n", "reads"),
-        ("[A]\ninputs = []\noutputs = { Y = \"0\" }", "reads"),
-        ("[A", "BadToml"),
-        ("[A]\n[A]\n", "BadToml"),
-        ("A = 1", "BadField master=A field=inputs"),
-        ("[X]", "BadField master=X field=inputs"),
-        (
-            "[A]\noutputs = { Y = \"0\" }",
-            "BadField master=A field=inputs",
-        ),
-        ("[A]\ninputs = []", "BadField master=A field=outputs"),
-        (
-            "[A]\ninputs = []\noutputs = { Y = \"0\" }\nmore = 1",
-            "BadField master=A field=more",
-        ),
-        (
-            "[A]\ninputs = []\noutputs = { Y = \"0\" }\nz = 1\nb = 1",
-            "BadField master=A field=b",
-        ),
-        (
-            "[A]\ninputs = \"B\"\noutputs = { Y = \"10\" }",
-            "BadField master=A field=inputs",
-        ),
-        (
-            "[A]\ninputs = [1]\noutputs = { Y = \"10\" }",
-            "BadField master=A field=inputs",
-        ),
-        (
-            "[A]\ninputs = [\"B\", \"B\"]\noutputs = { Y = \"1000\" }",
-            "BadField master=A field=inputs",
-        ),
-        (
-            "[A]\ninputs = [\"B\", \"C\", \"D\", \"E\", \"F\", \"G\", \"B\"]\noutputs = {}",
-            "BadField master=A field=inputs",
-        ),
-        (
-            "[A]\ninputs = [\"B\", \"C\", \"D\", \"E\", \"F\", \"G\", \"H\"]\noutputs = {}",
-            "TooManyInputs master=A",
-        ),
-        (
-            "[A]\ninputs = [\"Y\"]\noutputs = { Y = \"10\" }",
-            "BadField master=A field=outputs",
-        ),
-        (
-            "[A]\ninputs = [\"B\"]\noutputs = {}",
-            "BadField master=A field=outputs",
-        ),
-        (
-            "[A]\ninputs = [\"B\"]\noutputs = { Y = 10 }",
-            "BadField master=A field=outputs",
-        ),
-        (
-            "[A]\ninputs = [\"B\", \"C\"]\noutputs = { Y = \"111\" }",
-            "BadTable master=A output=Y",
-        ),
-        (
-            "[A]\ninputs = [\"B\"]\noutputs = { Y = \"\" }",
-            "BadTable master=A output=Y",
-        ),
-        (
-            "[A]\ninputs = [\"B\"]\noutputs = { Y = \"B\", Z = \"B C\", X = \"B |\" }",
-            "BadExpression master=A output=X place=3",
-        ),
-        (
-            "[A]\ninputs = [\"B\"]\noutputs = { Y = \"B & D & C\" }",
-            "UnknownInput master=A output=Y input=D",
-        ),
-        // The first fault by bytes: B before a; of a master inputs, then outputs, then other fields.
-        ("[a]\n[B]\ninputs = []", "BadField master=B field=outputs"),
-        (
-            "[A]\nextra = 1\ninputs = [\"B\"]\noutputs = { Y = \"1\" }",
-            "BadTable master=A output=Y",
-        ),
-        (
-            "[A]\ninputs = [\"B\"]\noutputs = { B = \"1\", A = \"\" }",
-            "BadField master=A field=outputs",
-        ),
-    ];
-    for (text, wanted) in texts {
+    for (text, wanted) in FIRST_FAULTS {
         assert_eq!(rt; said(rt.alloc(), text)?.as_str(), wanted);
     }
     Ok(())

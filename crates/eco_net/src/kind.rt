@@ -5,8 +5,8 @@ ghost use Rattle.std.specs.Option.{option_map};
 
 use eco_func::{MasterFn, Memory, Name, Table};
 use eco_text::Dir;
-use std::alloc::Global;
 use std::marker::Model;
+use std::sync::ArcSlice;
 
 /// A pin of a box.
 #[derive(Drop)]
@@ -15,69 +15,49 @@ pub struct BoxPin {
     pub dir: Dir,
 }
 
-/// The pins of a box, in order.
+/// The pins of a box, in order. Copies share one list.
 #[derive(Drop)]
 pub struct BoxPins {
-    pins: Vec<BoxPin>,
+    pins: ArcSlice<BoxPin>,
 }
 
 impl Model for BoxPins {
     ghost use Rattle.std.specs.Prelude.{List};
+    ghost use Rattle.std.specs.Arc.{arc_slice_items};
     ghost use Rattle.eco_net.specs.declared.kind.BoxPin.{BoxPin};
 
     ghost Value = { List BoxPin };
 
-    ghost view = { λ b. b.pins.items };
-}
-
-impl BoxPin {
-    /// The same pin.
-    pub(crate) fn copy(&self, alloc: Global) -> Result<BoxPin, Memory>
-        ensures { IfOk result (λ p. p ≡ self.now) }
-    {
-        Ok(BoxPin {
-            name: self.name.copy(alloc)?,
-            dir: self.dir,
-        })
-    }
+    ghost view = { λ b. arc_slice_items b.pins };
 }
 
 impl BoxPins {
     ghost use Rattle.std.specs.Prelude.{◌≡◌, IfOk};
 
     /// The box pins of a list, in its order.
-    pub fn of(pins: Vec<BoxPin>) -> BoxPins
-        ensures { result ≡ pins.items }
+    pub fn of(pins: Vec<BoxPin>) -> Result<BoxPins, Memory>
+        ensures { IfOk result (λ made. made ≡ pins.items) }
     {
-        BoxPins { pins }
+        Ok(BoxPins {
+            pins: ArcSlice::from_vec(pins)?,
+        })
     }
 
     /// The pins, in order.
     pub fn as_slice(&self) -> &[BoxPin]
         ensures { result.now ≡ self.now }
     {
-        &self.pins
+        self.pins.as_slice()
     }
 
-    /// The same pins.
-    pub fn copy(&self, alloc: Global) -> Result<BoxPins, Memory>
+    /// The same pins. No memory is taken: `Memory` comes only where there are too many copies to be counted.
+    pub fn copy(&self) -> Result<BoxPins, Memory>
         ensures { IfOk result (λ pins. pins ≡ self.now) }
     {
         Ok(BoxPins {
-            pins: copied_pins(alloc, &self.pins)?,
+            pins: self.pins.clone()?,
         })
     }
-}
-
-/// The same pins.
-fn copied_pins(alloc: Global, pins: &[BoxPin]) -> Result<Vec<BoxPin>, Memory>
-    ensures { IfOk result (λ copied. copied.items ≡ pins.now) }
-{
-    let mut copied = Vec::with_capacity(alloc, pins.len())?;
-    for pin in pins {
-        copied.push(pin.copy(alloc)?)?;
-    }
-    Ok(copied)
 }
 
 /// What a pin of a component is for.
@@ -115,13 +95,13 @@ impl Kind {
         }
     }
 
-    /// The same kind.
-    pub fn copy(&self, alloc: Global) -> Result<Kind, Memory>
+    /// The same kind. No memory is taken: `Memory` comes only where there are too many copies to be counted.
+    pub fn copy(&self) -> Result<Kind, Memory>
         ensures { IfOk result (λ k. k ≡ self.now) }
     {
         match self {
-            Kind::Gate(master) => Ok(Kind::Gate(master.copy(alloc)?)),
-            Kind::Boxed(pins) => Ok(Kind::Boxed(pins.copy(alloc)?)),
+            Kind::Gate(master) => Ok(Kind::Gate(master.copy()?)),
+            Kind::Boxed(pins) => Ok(Kind::Boxed(pins.copy()?)),
         }
     }
 

@@ -4,24 +4,40 @@ use crate::netlist::Netlist;
 use crate::search::Stop;
 use eco_func::{Memory, Name};
 use std::alloc::Global;
+use std::fmt::{self, Display, Formatter, Write};
 use std::marker::Model;
+use thiserror::Error;
 
-/// The computed nets of a loop-free netlist, each after all computed nets that its driver reads.
+/// The computed nets of a loop-free netlist, each after all computed nets that its driver reads, and how deep its gates
+/// stand.
 #[derive(Drop)]
 pub struct Levels {
     pub(crate) order: Vec<u32>,
+    pub(crate) depth: u32,
 }
 
 impl Model for Levels {
-    ghost use Rattle.std.specs.Prelude.{List, ℕ};
+    ghost use Rattle.eco_net.specs.Levelled.{Levelled};
 
-    ghost Value = { List ℕ };
+    ghost Value = { Levelled };
 
-    ghost view = { λ l. l.order.items };
+    ghost view = { λ l. record { order = l.order.items; depth = l.depth } };
+}
+
+impl Levels {
+    ghost use Rattle.std.specs.Prelude.{◌≡◌};
+
+    /// The greatest depth of a gate, and 0 where there is none. A gate's depth is one more than the greatest depth of the
+    /// gates that drive the computed nets it reads, and 1 if it reads none.
+    pub fn depth(&self) -> u32
+        ensures { result ≡ self.now.depth }
+    {
+        self.depth
+    }
 }
 
 /// Names of nets.
-#[derive(Drop)]
+#[derive(Debug, Drop)]
 pub struct Names {
     pub(crate) names: Vec<Name>,
 }
@@ -45,12 +61,28 @@ impl Names {
     }
 }
 
+/// The names with `,` between them.
+impl Display for Names {
+    fn fmt<W: Write>(&self, f: &mut Formatter<W>) -> fmt::Result {
+        for (place, name) in self.names.iter().enumerate() {
+            if 0 < place {
+                f.write_str(",")?;
+            }
+            write!(f, "{name}")?;
+        }
+        Ok(())
+    }
+}
+
 /// Why a netlist has no levels.
-#[derive(Drop)]
+#[derive(Debug, Drop, Error)]
 pub enum LoopFault {
     /// A closed walk of computed nets: each stands once and is read by the driver of the next, the last by that of the
     /// first, which is the least by bytes.
+    #[error("Loop nets={nets}")]
     Loop { nets: Names },
+    /// Want of memory.
+    #[error("memory")]
     Memory,
 }
 
@@ -80,7 +112,10 @@ impl Netlist {
     {
         let _counts = self.counts();
         match self.order(alloc) {
-            Ok(order) => Ok(Levels { order }),
+            Ok(order) => {
+                let depth = self.depth(alloc, &order)?;
+                Ok(Levels { order, depth })
+            }
             Err(Stop::Memory) => Err(LoopFault::Memory),
             Err(Stop::Ring(ring)) => {
                 let first = self.least(&ring);

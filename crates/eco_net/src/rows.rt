@@ -53,7 +53,7 @@ impl CompRow {
     {
         Ok(CompRow {
             name: self.name.copy(alloc)?,
-            kind: self.kind.copy(alloc)?,
+            kind: self.kind.copy()?,
             place: self.place,
             joined: self.joined.copy(alloc)?,
         })

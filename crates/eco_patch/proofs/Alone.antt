@@ -18,17 +18,11 @@ use Rattle.eco_patch.proofs.Sim.{found_driver}
 use Rattle.eco_patch.proofs.Gates.{joined_driven, patch_drives}
 use Rattle.eco_patch.proofs.Feeding.{spare_idle}
 use Rattle.eco_patch.proofs.Beside.{stock_beside}
+use Rattle.eco_patch.proofs.LoneStock.{one_of, lone_is_base, other_in_bare, lone_once, lone_pins}
 use Rattle.eco_patch.proofs.Lighter.{loop_free_without}
 use Rattle.eco_patch.proofs.Start.{bare_other, in_full, bool_cases, any_has}
 use Rattle.eco_patch.proofs.Inserting.{moved, moved_back, gates_cases}
 use Rattle.eco_patch.specs.Bases.{is_stock, IsTie}
-
-one_of : {A : Type 0} (x y : A) → Contains (x ∷ []) y → x ≡ y
-one_of x y c = go (has_from_contains (x ∷ []) y c)
-  where
-    go : Has (x ∷ []) y → x ≡ y
-    go (inl e) = e
-    go (inr h) = absurd h
 
 module _ (full : Netlist) (low high label : Name) (place : Name → Option Point) (gate : PatchGate) (move : Move) (p : Placement) (l : IsLone full low high label place gate move p) where
   abbrev base : Base
@@ -40,44 +34,13 @@ module _ (full : Netlist) (low high label : Name) (place : Name → Option Point
   abbrev P : Netlist
   P = inserted label place (bare base) order
 
-  without : IsWithout full (bare base)
-  without = record {
-    nets = refl;
-    tops = refl;
-    kept = in_full base;
-    others = λ c x e. ⊎_elim
-        (λ t. inr ((spare_idle x (subst IsSpare (spare_same c x e (any_has c base.stock t)) l.spare_is)).drives_none))
-        (λ f. inl (bare_other base c f ∙ e))
-        (bool_cases (is_stock base c));
-  }
-    where
-      spare_same : (c : Name) (x : Component) → get full.comps c ≡ Some x → Has base.stock c → l.spare ≡ x
-      spare_same c x e (inl s) = same_Some (sym l.spare_found ∙ ap (get full.comps) s ∙ e)
-      spare_same c x e (inr h) = absurd h
-
   base_is : IsBase base
-  base_is = record {
-    whole = l.supplied.whole;
-    loop_free = loop_free_without full (bare base) without l.supplied.loop_free;
-    low_is = inl l.supplied.low_is;
-    high_is = inl l.supplied.high_is;
-    low_tie = (l.supplied.ties low).1 (inl refl);
-    high_tie = (l.supplied.ties high).1 (inr refl);
-    stock = λ s c. (l.spare, ap (get full.comps) (sym (one_of p.spare s c)) ∙ l.spare_found, l.spare_is);
-    no_blank = l.supplied.no_blank;
-  }
+  base_is = lone_is_base full low high p.spare l.spare l.supplied l.spare_found l.spare_is
 
   -- ---- the moved pin
 
   comp_in_bare : get (bare base).comps move.comp ≡ Some l.comp
-  comp_in_bare = ⊎_elim
-      (λ t. absurd (l.comp_other (sym (stock_one (any_has move.comp base.stock t)))))
-      (λ f. bare_other base move.comp f ∙ l.comp_found)
-      (bool_cases (is_stock base move.comp))
-    where
-      stock_one : Has base.stock move.comp → p.spare ≡ move.comp
-      stock_one (inl e) = e
-      stock_one (inr h) = absurd h
+  comp_in_bare = other_in_bare full low high p.spare move.comp l.comp l.comp_found l.comp_other
 
   moves_input : (m : Move) → Contains order.moves m → (x : Component) → get (bare base).comps m.comp ≡ Some x → is_driving (role_of x m.pin) ≡ true → ⊥
   moves_input m c x e d =
@@ -137,11 +100,10 @@ module _ (full : Netlist) (low high label : Name) (place : Name → Option Point
       ((l.supplied.ties gate.output).0 t)
 
   its_once : NoneStandsTwice order
-  unfolding IsDistinct
-  its_once = record { nets = (tt, tt); gates = (tt, tt); moves = (tt, tt) }
+  its_once = lone_once gate move
 
   its_pins : PinsAreKnown (bare base) order
-  its_pins m c = (l.comp, ap (λ z. get (bare base).comps z.comp) (sym (one_of move m c)) ∙ comp_in_bare, (Reads, ap (λ z. role_of l.comp z.pin) (sym (one_of move m c)) ∙ l.pin_reads))
+  its_pins = lone_pins full low high p.spare gate move l.comp l.comp_found (Reads, l.pin_reads) l.comp_other
 
   keeps : KeepsRules (bare base) (bare base) P order
   unfolding IsDistinct

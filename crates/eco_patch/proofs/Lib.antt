@@ -14,6 +14,7 @@ pub mod Patches
 pub mod Taking
 pub mod Lighter
 pub mod Beside
+pub mod LoneStock
 pub mod Alone
 pub mod Relabel
 pub mod Fold

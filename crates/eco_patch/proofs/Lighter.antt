@@ -1,4 +1,4 @@
--- A netlist without some components that drive nothing has no loop that the whole has not, and the same valuations
+-- A netlist without some components that drive nothing has the loops of the whole, and the same valuations
 use Rattle.std.proofs.Common.{◌≡◌, ◌↔◌, ℕ, zero, suc, Bool, List, Option, Some, sym, ap, ◌∙◌, ⊎_elim}
 use Rattle.std.specs.FinMap.{get, contains_key}
 use Rattle.eco_net.specs.Netlist.{Name, Netlist, Pin, TopPin, CompPin}
@@ -66,6 +66,16 @@ module _ (M N : Netlist) (without : IsWithout M N) where
     at = c.at;
     reads = c.reads;
   }
+
+  reads_in_N : (a b : Name) → ReadsNet M a b → ReadsNet N a b
+  reads_in_N a b r = record { from = (r.from.0, r.from.1, computed_in_N a r.from.0 r.from.1 r.from.2); table = r.table; inputs = r.inputs; to = computed_in_N b r.table r.inputs r.to; reads = r.reads }
+
+  walk_in_N : (a b : Name) (k : ℕ) → Walk M a b k → Walk N a b k
+  walk_in_N a b zero w = w
+  walk_in_N a b (suc k) w = (w.0, walk_in_N a w.0 k w.1, reads_in_N w.0 b w.2)
+
+  pub loop_free_with : IsLoopFree N → IsLoopFree M
+  loop_free_with free a k w = free a k (walk_in_N a a (suc k) w)
 
   free_in_M : (n : Name) → IsFree N n → IsFree M n
   free_in_M n f = (ap (λ m. get m n) (sym without.nets) ∙ f.0, λ c. f.1 (c.0, c.1, computed_in_N n c.0 c.1 c.2))

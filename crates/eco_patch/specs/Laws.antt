@@ -5,7 +5,7 @@ use Rattle.std.specs.List.{Contains, IsDistinct, zip}
 use Rattle.std.specs.Ordering.{eq_by_cmp}
 use Rattle.std.specs.FinMap.{get}
 use Rattle.eco_text.specs.declared.geometry.Point.{Point}
-use Rattle.eco_net.specs.Netlist.{Name, name_cmp, Netlist, Component, Computes, role_of, Pin, CompPin}
+use Rattle.eco_net.specs.Netlist.{Name, name_cmp, Netlist, Component, Computes, role_of, Pin, CompPin, IsPin}
 use Rattle.eco_net.specs.Drivers.{Computed, net_of}
 use Rattle.eco_net.specs.CutKeys.{CutBits}
 use Rattle.eco_net.specs.Valuation.{Valuation, IsValuation}
@@ -14,12 +14,12 @@ use Rattle.eco_patch.specs.Orders.{PatchGate, Move, Order, Placement}
 use Rattle.eco_patch.specs.Joints.{Joint, with_joints, frame, first_each, Takes}
 use Rattle.eco_patch.specs.Insertion.{inserted}
 use Rattle.eco_patch.specs.Realisation.{feed_net, patch_joints, realised}
-use Rattle.eco_patch.specs.Bases.{Base, IsBase, IsWithout, bare}
+use Rattle.eco_patch.specs.Bases.{Base, IsBase, IsSpare, IsWithout, bare}
 use Rattle.eco_patch.specs.Rules.{NoneStandsTwice, PinsAreKnown}
 use Rattle.eco_patch.specs.Mappings.{spares_of}
 use Rattle.eco_patch.specs.Patches.{IsPatch}
 use Rattle.eco_patch.specs.Meaning.{SameMeaning}
-use Rattle.eco_patch.specs.Lone.{lone_base, lone_order, IsLone}
+use Rattle.eco_patch.specs.Lone.{lone_base, lone_order, IsSupplied, IsLone}
 use Rattle.eco_patch.specs.Live.{Commit, AreLive, live_joints, live_nets, abstract, concrete}
 
 -- ---- pins put on nets
@@ -105,6 +105,13 @@ StockIsBeside =
     (base : Base) (label : Name) (place : Name → Option Point) (order : Order) → IsBase base → NoneStandsTwice order → PinsAreKnown (bare base) order
     → IsWithout (inserted label place base.full order) (inserted label place (bare base) order)
 
+-- one spare stands beside one inserted gate, whatever becomes of it, and drives nothing
+abbrev pub LoneIsBeside : Type 0
+LoneIsBeside =
+    (full : Netlist) (low high label : Name) (place : Name → Option Point) (gate : PatchGate) (move : Move) (spare : Name) (x y : Component)
+    → IsSupplied full low high → get full.comps spare ≡ Some x → IsSpare x → get full.comps move.comp ≡ Some y → IsPin y move.pin → move.comp ≢ spare
+    → IsWithout (inserted label place full (lone_order gate move)) (inserted label place (bare (lone_base full low high spare)) (lone_order gate move))
+
 -- the joints that realise a patch are ones that the base can take
 abbrev pub BaseTakesJoints : Type 0
 BaseTakesJoints =
@@ -146,6 +153,10 @@ LiveNetsAreNew =
 abbrev pub WithoutIsLoopFree : Type 0
 WithoutIsLoopFree = (M N : Netlist) → IsWithout M N → IsLoopFree M → IsLoopFree N
 
--- nor does it change what is computed
+-- nor does putting them back
+abbrev pub WithIsLoopFree : Type 0
+WithIsLoopFree = (M N : Netlist) → IsWithout M N → IsLoopFree N → IsLoopFree M
+
+-- taking them away changes nothing of what is computed
 abbrev pub WithoutComputesSame : Type 0
 WithoutComputesSame = (M N : Netlist) → IsWithout M N → (cut : CutBits) (v : Valuation) → IsValuation N cut v ↔ IsValuation M cut v

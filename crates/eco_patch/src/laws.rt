@@ -1,4 +1,4 @@
-ghost use Rattle.eco_patch.specs.Laws.{BaseTakesJoints, BaseTakesLive, ComponentsStay, FirstCounts, FreeStockRests, GatesCompute, JointsJoin, LiveJoints, LiveMeansSame, LiveNetsAreNew, LoneIsPatch, MovesArrive, NetsJoin, NothingLive, OtherNetsStay, OtherPinsStay, OthersRemain, PatchMeansSame, SameBesideStock, SameValuations, SparesCompute, StockIsBeside, WithoutComputesSame, WithoutIsLoopFree};
+ghost use Rattle.eco_patch.specs.Laws.{BaseTakesJoints, BaseTakesLive, ComponentsStay, FirstCounts, FreeStockRests, GatesCompute, JointsJoin, LiveJoints, LiveMeansSame, LiveNetsAreNew, LoneIsBeside, LoneIsPatch, MovesArrive, NetsJoin, NothingLive, OtherNetsStay, OtherPinsStay, OthersRemain, PatchMeansSame, SameBesideStock, SameValuations, SparesCompute, StockIsBeside, WithIsLoopFree, WithoutComputesSame, WithoutIsLoopFree};
 
 /// A law: joints put their pins on their nets, of two joints of one pin the first, and leave all other pins, each component's
 /// kind and place, and all nets but the new ones as they were.
@@ -67,10 +67,12 @@ pub fn live_joints_join()
     ensures none { NothingLive }
 {}
 
-/// A law: taking away components that drive nothing makes no loop and changes no valuation. The stock beside an order's
-/// inserted gates are such components.
+/// A law: taking away components that drive nothing makes no loop, takes none away and changes no valuation. The stock
+/// beside an order's inserted gates are such components, and so is one spare beside one gate.
 pub fn without_means_same()
     ensures loops { WithoutIsLoopFree }
+    ensures loops_with { WithIsLoopFree }
     ensures valuations { WithoutComputesSame }
     ensures stock { StockIsBeside }
+    ensures lone { LoneIsBeside }
 {}

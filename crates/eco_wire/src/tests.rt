@@ -19,52 +19,75 @@ fn found(method: Method, path: (usize, usize), body: (u16, u16), close: bool) ->
     })
 }
 
+// A request, and its method, path and body with their lengths, and whether it closes.
+const REQUESTS: [(&str, Method, (usize, usize), (u16, u16), bool); 10] = [
+    (
+        "GET /front HTTP/1.1\r\nHost: eco\r\n\r\n",
+        Method::Get,
+        (4, 6),
+        (34, 0),
+        false,
+    ),
+    ("GET / HTTP/1.1\n\n", Method::Get, (4, 1), (16, 0), false),
+    (
+        "\r\nget / HTTP/1.1\r\n\r\n",
+        Method::Other,
+        (6, 1),
+        (20, 0),
+        false,
+    ),
+    (
+        "HEAD / HTTP/1.1\r\n\r\n",
+        Method::Other,
+        (5, 1),
+        (19, 0),
+        false,
+    ),
+    ("GET / HTTP/1.0\r\n\r\n", Method::Get, (4, 1), (18, 0), true),
+    (
+        "GET / HTTP/1.1\r\nConnection: a,\tCLOSE \r\n\r\n",
+        Method::Get,
+        (4, 1),
+        (41, 0),
+        true,
+    ),
+    (
+        "GET / HTTP/1.1\r\nconnection: closed\r\n\r\n",
+        Method::Get,
+        (4, 1),
+        (38, 0),
+        false,
+    ),
+    (
+        "GET / HTTP/1.1\r\nContent-length: 002\r\n\r\nabc",
+        Method::Get,
+        (4, 1),
+        (39, 2),
+        false,
+    ),
+    (
+        "POST /plan HTTP/1.1\r\nContent-Length: 3\r\n\r\nabc",
+        Method::Post,
+        (5, 5),
+        (42, 3),
+        false,
+    ),
+    (
+        "GET http://h/front HTTP/1.1\r\n\r\n",
+        Method::Get,
+        (4, 14),
+        (31, 0),
+        false,
+    ),
+];
+
 #[test]
 fn requests_with_method_path_body_and_close(rt: HostRuntime) -> Result<(), Fail> {
-    let cases = [
-        (
-            "GET /front HTTP/1.1\r\nHost: eco\r\n\r\n",
-            found(Method::Get, (4, 6), (34, 0), false),
-        ),
-        (
-            "GET / HTTP/1.1\n\n",
-            found(Method::Get, (4, 1), (16, 0), false),
-        ),
-        (
-            "\r\nget / HTTP/1.1\r\n\r\n",
-            found(Method::Other, (6, 1), (20, 0), false),
-        ),
-        (
-            "HEAD / HTTP/1.1\r\n\r\n",
-            found(Method::Other, (5, 1), (19, 0), false),
-        ),
-        (
-            "GET / HTTP/1.0\r\n\r\n",
-            found(Method::Get, (4, 1), (18, 0), true),
-        ),
-        (
-            "GET / HTTP/1.1\r\nConnection: a,\tCLOSE \r\n\r\n",
-            found(Method::Get, (4, 1), (41, 0), true),
-        ),
-        (
-            "GET / HTTP/1.1\r\nconnection: closed\r\n\r\n",
-            found(Method::Get, (4, 1), (38, 0), false),
-        ),
-        (
-            "GET / HTTP/1.1\r\nContent-length: 002\r\n\r\nabc",
-            found(Method::Get, (4, 1), (39, 2), false),
-        ),
-        (
-            "POST /plan HTTP/1.1\r\nContent-Length: 3\r\n\r\nabc",
-            found(Method::Post, (5, 5), (42, 3), false),
-        ),
-        (
-            "GET http://h/front HTTP/1.1\r\n\r\n",
-            found(Method::Get, (4, 14), (31, 0), false),
-        ),
-    ];
-    for (text, wanted) in cases {
-        assert_eq!(rt; next_request(text.as_bytes()), wanted);
+    for (text, method, path, body, close) in REQUESTS {
+        assert_eq!(rt;
+            next_request(text.as_bytes()),
+            found(method, path, body, close)
+        );
     }
     Ok(())
 }
@@ -163,57 +186,73 @@ fn a_request_comes_with_its_last_byte_and_stays_with_more(rt: HostRuntime) -> Re
     Ok(())
 }
 
+const ROUTES: [(Method, &[u8], Route); 12] = [
+    (Method::Get, b"/front", Route::Front),
+    (Method::Get, b"/spares", Route::Spares),
+    (
+        Method::Get,
+        b"/orders/inv1",
+        Route::Order(Span { start: 8, len: 4 }),
+    ),
+    (
+        Method::Get,
+        b"/orders/a%2Fb",
+        Route::Order(Span { start: 8, len: 5 }),
+    ),
+    (Method::Get, b"/revision/0/def", Route::Revision(0)),
+    (Method::Get, b"/revision/8192/def", Route::Revision(8192)),
+    (
+        Method::Get,
+        b"/revision/18446744073709551615/def",
+        Route::Revision(u64::MAX),
+    ),
+    (Method::Post, b"/plan", Route::Plan),
+    (Method::Post, b"/commit", Route::Commit),
+    (Method::Post, b"/withdraw", Route::Withdraw),
+    (Method::Post, b"/hold", Route::Hold),
+    (Method::Post, b"/release", Route::Release),
+];
+
+// Paths that other methods have.
+const WRONG_METHODS: [(Method, &[u8], Method); 4] = [
+    (Method::Post, b"/front", Method::Get),
+    (Method::Other, b"/front", Method::Get),
+    (Method::Post, b"/orders/inv1", Method::Get),
+    (Method::Get, b"/hold", Method::Post),
+];
+
+const NO_PATHS: [(Method, &[u8]); 14] = [
+    (Method::Get, b"/none"),
+    (Method::Get, b"/"),
+    (Method::Get, b"/front/"),
+    (Method::Get, b"/front?x"),
+    (Method::Get, b"http://h/front"),
+    (Method::Get, b"/orders/"),
+    (Method::Get, b"/orders/a/b"),
+    (Method::Get, b"/orders/\xff"),
+    (Method::Get, b"/revision//def"),
+    (Method::Get, b"/revision/01/def"),
+    (Method::Get, b"/revision/+1/def"),
+    (Method::Get, b"/revision/18446744073709551616/def"),
+    (Method::Post, b"/revision/x/def"),
+    (Method::Get, b"/revision/1"),
+];
+
 #[test]
 fn paths_have_the_routes_of_the_table(rt: HostRuntime) -> Result<(), Fail> {
     let router = Router::new(rt.alloc())?;
-    let name = |len| Ok(Route::Order(Span { start: 8, len }));
-    let wrong = |allow| Err(RouteFault::WrongMethod { allow });
-    let cases: [(Method, &[u8], Result<Route, RouteFault>); 30] = [
-        (Method::Get, b"/front", Ok(Route::Front)),
-        (Method::Get, b"/spares", Ok(Route::Spares)),
-        (Method::Get, b"/orders/inv1", name(4)),
-        (Method::Get, b"/orders/a%2Fb", name(5)),
-        (Method::Get, b"/revision/0/def", Ok(Route::Revision(0))),
-        (
-            Method::Get,
-            b"/revision/8192/def",
-            Ok(Route::Revision(8192)),
-        ),
-        (
-            Method::Get,
-            b"/revision/18446744073709551615/def",
-            Ok(Route::Revision(u64::MAX)),
-        ),
-        (Method::Post, b"/plan", Ok(Route::Plan)),
-        (Method::Post, b"/commit", Ok(Route::Commit)),
-        (Method::Post, b"/withdraw", Ok(Route::Withdraw)),
-        (Method::Post, b"/hold", Ok(Route::Hold)),
-        (Method::Post, b"/release", Ok(Route::Release)),
-        (Method::Post, b"/front", wrong(Method::Get)),
-        (Method::Other, b"/front", wrong(Method::Get)),
-        (Method::Post, b"/orders/inv1", wrong(Method::Get)),
-        (Method::Get, b"/hold", wrong(Method::Post)),
-        (Method::Get, b"/none", Err(RouteFault::NoPath)),
-        (Method::Get, b"/", Err(RouteFault::NoPath)),
-        (Method::Get, b"/front/", Err(RouteFault::NoPath)),
-        (Method::Get, b"/front?x", Err(RouteFault::NoPath)),
-        (Method::Get, b"http://h/front", Err(RouteFault::NoPath)),
-        (Method::Get, b"/orders/", Err(RouteFault::NoPath)),
-        (Method::Get, b"/orders/a/b", Err(RouteFault::NoPath)),
-        (Method::Get, b"/orders/\xff", Err(RouteFault::NoPath)),
-        (Method::Get, b"/revision//def", Err(RouteFault::NoPath)),
-        (Method::Get, b"/revision/01/def", Err(RouteFault::NoPath)),
-        (Method::Get, b"/revision/+1/def", Err(RouteFault::NoPath)),
-        (
-            Method::Get,
-            b"/revision/18446744073709551616/def",
-            Err(RouteFault::NoPath),
-        ),
-        (Method::Post, b"/revision/x/def", Err(RouteFault::NoPath)),
-        (Method::Get, b"/revision/1", Err(RouteFault::NoPath)),
-    ];
-    for (method, path, wanted) in cases {
-        assert_eq!(rt; router.route(rt.alloc(), &method, path), wanted);
+    for (method, path, route) in ROUTES {
+        assert_eq!(rt; router.route(rt.alloc(), &method, path), Ok(route));
+    }
+    for (method, path, allow) in WRONG_METHODS {
+        let wrong = RouteFault::WrongMethod { allow };
+        assert_eq!(rt; router.route(rt.alloc(), &method, path), Err(wrong));
+    }
+    for (method, path) in NO_PATHS {
+        assert_eq!(rt;
+            router.route(rt.alloc(), &method, path),
+            Err(RouteFault::NoPath)
+        );
     }
     Ok(())
 }
@@ -240,7 +279,7 @@ fn reply_heads_have_status_type_length_allow_and_close(rt: HostRuntime) -> Resul
 }
 
 #[test]
-fn each_status_has_its_phrase(rt: HostRuntime) -> Result<(), Fail> {
+fn statuses_of_refused_calls_have_their_phrases(rt: HostRuntime) -> Result<(), Fail> {
     let alloc = rt.alloc();
     let cases = [
         (
@@ -255,6 +294,19 @@ fn each_status_has_its_phrase(rt: HostRuntime) -> Result<(), Fail> {
             reply_head(alloc, 409, BodyKind::Json, 0, None, false)?,
             "HTTP/1.1 409 Conflict\r\n",
         ),
+    ];
+    for (head, wanted) in &cases {
+        assert!(rt; head.starts_with(wanted.as_bytes()));
+    }
+    Ok(())
+}
+
+#[test]
+fn statuses_of_broken_and_unserved_requests_have_their_phrases(
+    rt: HostRuntime,
+) -> Result<(), Fail> {
+    let alloc = rt.alloc();
+    let cases = [
         (
             reply_head(alloc, 411, BodyKind::Json, 0, None, false)?,
             "HTTP/1.1 411 Length Required\r\n",
