@@ -1,5 +1,5 @@
 -- What one top pin adds to a netlist, and what many add.
-use Rattle.std.proofs.Common.{◌≡◌, ◌↔◌, ℕ, ◌+◌, ◌<◌, ◌≤◌, arith, true, false, List, [], ◌∷◌, ◌++◌, length, map, take, slice_get, Option, Some, None, refl, sym, ap, ◌∙◌, subst, inl, inr, ⊎_elim, append_assoc, true≢false}
+use Rattle.std.proofs.Common.{◌≡◌, ℕ, arith, true, false, List, [], ◌∷◌, ◌++◌, length, map, take, slice_get, Option, Some, None, refl, sym, ap, ◌∙◌, subst, inl, ⊎_elim, append_assoc, true≢false}
 use Rattle.std.specs.List.{Contains}
 use Rattle.std.specs.Option.{option_map}
 use Rattle.std.specs.FinMap.{get, insert}
@@ -9,7 +9,7 @@ use Rattle.eco_def.specs.Named.{NamedPin}
 use Rattle.eco_net.specs.Netlist.{Name, Top, Netlist}
 use Rattle.eco_net.specs.Listing.{Listing, netlist, net_name, AreApart}
 use Rattle.eco_net.specs.Changes.{with_top}
-use Rattle.eco_net.proofs.Basics.{Has, contains_from_has, has_from_contains, has_of_map, has_append_left, has_append_right, get_same, get_other, same_Some, not_None}
+use Rattle.eco_net.proofs.Basics.{contains_from_has, has_from_contains, has_of_map, has_append_left, has_append_right, get_same, get_other, same_Some, not_None}
 use Rattle.eco_full.specs.Netlists.{top_of}
 use Rattle.eco_full.specs.Stages.{TopsAre, AddsTops}
 use Rattle.eco_full.proofs.Names.{same_or_other}

@@ -1,7 +1,7 @@
 -- The pins that are found of joints, by number and by name.
-use Rattle.std.proofs.Common.{◌≡◌, ℕ, zero, suc, ◌+◌, ◌<◌, arith, Bool, true, false, not, cond, List, [], ◌∷◌, ◌++◌, length, map, take, get_or, slice_get, Option, Some, None, refl, sym, ap, ◌∙◌, subst, inl, inr, ⊎_elim, append_assoc}
+use Rattle.std.proofs.Common.{◌≡◌, ℕ, zero, suc, ◌+◌, ◌<◌, arith, true, false, not, cond, List, [], ◌∷◌, ◌++◌, length, map, take, get_or, slice_get, Some, None, refl, sym, ap, ◌∙◌, subst, inl, inr, ⊎_elim, append_assoc}
 use Rattle.std.specs.List.{Contains, filter}
-use Rattle.std.specs.Option.{option_map, unwrap_or}
+use Rattle.std.specs.Option.{unwrap_or}
 use Rattle.std.specs.FinMap.{get}
 use Rattle.std.proofs.lemmas.Option.{slice_get-map, slice_get_within}
 use Rattle.std.proofs.lemmas.List.{map-append, length-map, append-nil}
@@ -17,7 +17,7 @@ use Rattle.eco_net.specs.declared.rows.NetRow.{NetRow}
 use Rattle.eco_net.specs.Netlist.{Name, Component, Netlist, IsPin}
 use Rattle.eco_net.specs.Listing.{Listing, netlist, component, comp_names, net_names, net_name, pins, HasPin, FindsPin}
 use Rattle.eco_net.specs.Kept.{IsListing}
-use Rattle.eco_net.proofs.Basics.{Has, contains_from_has, has_from_contains, has_append_left, has_append_right, has_found, same_Some, not_None}
+use Rattle.eco_net.proofs.Basics.{Has, contains_from_has, has_from_contains, has_append_left, has_append_right, has_found, same_Some}
 use Rattle.eco_net.proofs.Effects.{comp_is}
 use Rattle.eco_net.proofs.Places.{row_of_name}
 use Rattle.eco_full.specs.declared.fault.DesignFault.{DesignFault}
@@ -103,7 +103,7 @@ fault_among N xs ys Memory to f = f
 
 -- ---- statements
 
-map_twice : {A B C : Type 0} (f : B → C) (g : A → B) (xs : List A) → map f (map g xs) ≡ map (λ x. f (g x)) xs
+pub map_twice : {A B C : Type 0} (f : B → C) (g : A → B) (xs : List A) → map f (map g xs) ≡ map (λ x. f (g x)) xs
 map_twice f g [] = refl
 map_twice f g (x ∷ xs) = ap (λ ys. f (g x) ∷ ys) (map_twice f g xs)
 

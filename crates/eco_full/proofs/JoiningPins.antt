@@ -1,6 +1,5 @@
 -- Pins put on nets one after another.
-use Rattle.std.proofs.Common.{◌≡◌, ◌≢◌, ℕ, ◌<◌, arith, List, [], ◌∷◌, ◌++◌, length, map, take, get_or, slice_get, Option, Some, None, refl, sym, ap, ◌∙◌, subst, inl, inr, ⊎_elim, ◌⊎◌}
-use Rattle.std.specs.List.{Contains}
+use Rattle.std.proofs.Common.{◌≡◌, ◌≢◌, ℕ, ◌<◌, List, [], ◌∷◌, ◌++◌, length, slice_get, Option, Some, None, refl, sym, ap, ◌∙◌, subst, inl, inr, ⊎_elim}
 use Rattle.std.specs.Option.{option_map, unwrap_or}
 use Rattle.std.specs.FinMap.{get}
 use Rattle.std.proofs.lemmas.List.{map-append}
@@ -11,7 +10,7 @@ use Rattle.eco_net.specs.declared.rows.CompRow.{CompRow}
 use Rattle.eco_net.specs.declared.rows.NetRow.{NetRow}
 use Rattle.eco_net.specs.Netlist.{Name, Component, Netlist, CompPin, pins_of}
 use Rattle.eco_net.specs.Drivers.{net_of}
-use Rattle.eco_net.specs.Listing.{Listing, netlist, component, kind_of, net_name, pin_at, pin_named, with_joint, HasPin, IsKnownPin}
+use Rattle.eco_net.specs.Listing.{Listing, netlist, component, kind_of, net_name, pin_at, pin_named, with_joint, HasPin}
 use Rattle.eco_net.specs.Changes.{with_pin_on, on_net as put_pin}
 use Rattle.eco_net.specs.Kept.{IsListing}
 use Rattle.eco_net.proofs.Basics.{Has, contains_from_has, has_from_contains, has_append_left, has_append_right, has_map, has_of_map, same_Some, not_None}
@@ -20,7 +19,7 @@ use Rattle.eco_net.proofs.Numbers.{AlikeRows, rejoined_alike}
 use Rattle.eco_full.specs.declared.fault.DesignFault.{DesignFault}
 use Rattle.eco_full.specs.declared.fault.DesignFault.TheVariants.{UnknownMacro, UnknownPin, PinNetDiffers, SupplyDiffers, Memory}
 use Rattle.eco_full.specs.declared.joined_pin.JoinedPin.{JoinedPin}
-use Rattle.eco_full.specs.Joints.{with_joints, put_on, IsRewired, OneNetEach}
+use Rattle.eco_full.specs.Joints.{put_on, IsRewired, OneNetEach}
 use Rattle.eco_full.specs.Stages.{comp_name, pin_name, joint_of, joints_of, IsKnownJoint, name_and_kind, SameNumbers, net_before, JoinsPin, JoinsPins, OneFault, JoinFault}
 use Rattle.eco_full.proofs.Members.{has_of_append}
 use Rattle.eco_full.proofs.Joining.{is_for, for_some}
@@ -191,7 +190,7 @@ module _ (L M : Listing) (ps : List JoinedPin) (p : JoinedPin) (now : JoinsPins 
   pub pins_joined : (N : Listing) → JoinsPin M p N → JoinsPins L (ps ++ p ∷ []) N
   pins_joined N step = record {
     wired = subst (λ js. IsRewired (netlist L) js [] (netlist N)) (sym (map-append (joint_of L) ps (p ∷ [])))
-    (rewired_more (netlist L) (netlist M) (netlist N) (joints_of L ps) (joint_of L p) now.wired (subst (λ j. IsRewired (netlist M) (j ∷ []) [] (netlist N)) joint step.wired) agree);
+        (rewired_more (netlist L) (netlist M) (netlist N) (joints_of L ps) (joint_of L p) now.wired (subst (λ j. IsRewired (netlist M) (j ∷ []) [] (netlist N)) joint step.wired) agree);
     one = subst OneNetEach (sym (map-append (joint_of L) ps (p ∷ []))) one;
     same = numbers_stay L M N now.same step.same;
   }
@@ -222,8 +221,7 @@ module _ (L M : Listing) (ps : List JoinedPin) (p : JoinedPin) (now : JoinsPins 
   pins_differ all PinNetDiffers front has off f = ⊎_elim
       (λ r.
       let net : r.0.net ≡ f.0 = same_Some (sym (on_before r.0 r.1 r.2 r.3) ∙ f.1) in
-      let q = has_of_map (joint_of L) ps r.0 r.1 in
-      (
+      let q = has_of_map (joint_of L) ps r.0 r.1 in (
         r.0,
         joint_of L p,
         contains_from_has (joints_of L all) r.0 (subst (Has (joints_of L all)) q.2 (has_map (joint_of L) all q.0 (front q.0 q.1))),

@@ -15,10 +15,12 @@ pub mod Fillers
 pub mod Adding
 pub mod AddingTops
 pub mod Valued
+pub mod ReadOnce
+pub mod Limited
 pub mod Stating
 pub mod FindingPins
 pub mod JoiningPins
 pub mod Assembling
-pub mod ReadOnce
+pub mod Whole
 pub mod Unchanged
 mod Examples

@@ -1,21 +1,24 @@
 -- What each stage of listing a design adds to the netlist.
 use mathlib.Core.Bool.{beq}
 use Rattle.std.specs.Prelude.{◌≡◌, ◌≢◌, ◌⊎◌, ℕ, ◌+◌, ◌<◌, ◌≤◌, Bool, true, false, cond, ◌↔◌, List, [], ◌∷◌, ◌++◌, length, map, Option, Some, None, slice_get}
-use Rattle.std.specs.List.{Contains, list_any, All}
+use Rattle.std.specs.List.{Contains, list_any}
 use Rattle.std.specs.Option.{option_map, unwrap_or}
 use Rattle.std.specs.Str.{bytes_eq}
 use Rattle.std.specs.Borrow.{Bor}
 use Rattle.std.specs.FinMap.{get, empty}
+use Rattle.std.specs.FinSet as set
 use Rattle.std.specs.HashMap.{HashMap, get_by}
 use Rattle.std.specs.declared.hash.FoldHasher.{FoldHasher}
 use Rattle.std.specs.declared.hash.BuildHasherDefault.{BuildHasherDefault}
+use Rattle.eco_def.specs.declared.design.Design.{Design}
 use Rattle.eco_def.specs.Named.{NamedComp, NamedPin, NamedNet}
 use Rattle.eco_issued.specs.Changes.{NewJoint}
 use Rattle.eco_net.specs.declared.kind.Kind.{Kind as Given}
 use Rattle.eco_net.specs.declared.rows.CompRow.{CompRow}
 use Rattle.eco_net.specs.declared.ids.CompId.{CompId}
 use Rattle.eco_net.specs.declared.ids.PinRef.TheVariants.{Pin}
-use Rattle.eco_net.specs.Netlist.{Name, Kind, Component, Top, Netlist, CompPin, IsPin}
+use Rattle.eco_net.specs.Netlist.{Name, Component, Top, Netlist, CompPin, IsPin}
+use Rattle.eco_net.specs.Changes.{empty_netlist}
 use Rattle.eco_net.specs.Drivers.{net_of}
 use Rattle.eco_net.specs.Listing.{Listing, netlist, net_name, pins, IsKnownPin}
 use Rattle.eco_full.specs.declared.fault.DesignFault.{DesignFault}
@@ -23,7 +26,7 @@ use Rattle.eco_full.specs.declared.fault.DesignFault.TheVariants.{UnknownMacro, 
 use Rattle.eco_full.specs.declared.joined_pin.JoinedPin.{JoinedPin}
 use Rattle.eco_full.specs.Netlists.{Kinds, supply_by, top_of}
 use Rattle.eco_full.specs.Joints.{IsRewired, OneNetEach}
-use Rattle.eco_full.specs.Stated.{supply_among}
+use Rattle.eco_full.specs.Stated.{named_net, named_pin, named_comps, named_pins}
 
 -- ---- supplies
 
@@ -172,3 +175,24 @@ JoinFault js UnknownPin = ⊥
 JoinFault js PinNetDiffers = (j : NewJoint) × (k : NewJoint) × Contains js j × Contains js k × (j.comp ≡ k.comp) × (j.pin ≡ k.pin) × (j.net ≢ k.net)
 JoinFault js SupplyDiffers = ⊥
 JoinFault js Memory = Unit {0}
+
+-- ---- a whole design
+
+-- the names of the nets, of statements in the order of the text and of the design's own pins
+abbrev pub net_names : List ℕ → Design → List Name
+net_names text d = map (λ s. (named_net text s).name) d.nets ++ map (λ p. (named_pin text p).net) d.pins
+
+-- the nets are listed, and nothing else
+pub record NetsListed (value : Name → Option Bool) (text : List ℕ) (d : Design) (L : Listing) : Type 0 where
+  pub nets : NetsAre value (net_names text d) (netlist L)
+  pub others : netlist L ≡ record empty_netlist { nets = (netlist L).nets }
+  pub no_comps : L.comps ≡ []
+  pub no_tops : L.tops ≡ []
+
+-- all is listed, with the components' pins on no net
+pub record PartsListed (kinds : Kinds) (value : Name → Option Bool) (text : List ℕ) (d : Design) (L : Listing) : Type 0 where
+  pub nets : NetsAre value (net_names text d) (netlist L)
+  pub comps : CompsAre kinds (named_comps text d.comps) (netlist L)
+  pub tops : TopsAre (named_pins text d.pins) (netlist L)
+  pub ties : (netlist L).ties ≡ set.empty
+  pub reserved : (netlist L).reserved ≡ set.empty

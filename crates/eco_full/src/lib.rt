@@ -11,7 +11,6 @@ mod listed_nets;
 mod listed_tops;
 mod listing;
 mod macros;
-
 mod supplies;
 mod words;
 

@@ -16,12 +16,7 @@ use eco_net::NetlistMaker;
 use std::alloc::Global;
 
 /// Adds a pin of the design, unless it is a supply pin.
-fn add_top(
-    maker: &mut NetlistMaker,
-    alloc: Global,
-    text: &[u8],
-    pin: &TopPin,
-) -> Result<(), Memory>
+fn add_top(maker: &mut NetlistMaker, alloc: Global, text: &[u8], pin: &TopPin) -> Result<(), Memory>
     requires new_name { get (netlist maker.old).tops (named_pin text.now pin.now).name ≡ None }
     requires net { IsNet (netlist maker.old) (named_pin text.now pin.now).net }
     requires few { length maker.old.tops < 1000000 }

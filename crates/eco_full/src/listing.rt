@@ -1,11 +1,11 @@
 //! Listing the netlist of a design.
 
-ghost use Rattle.std.specs.Prelude.{◌≡◌, IfOk, IfErr, OnOk};
+ghost use Rattle.std.specs.Prelude.{IfOk, IfErr};
 ghost use Rattle.eco_def.specs.Named.{names_of};
 ghost use Rattle.eco_def.specs.View.{design_in};
 ghost use Rattle.eco_def.specs.Sections.{IsReadingOf};
 ghost use Rattle.eco_full.specs.Building.{Lists};
-ghost use Rattle.eco_full.specs.Stages.{value_of, NetsListed, PartsListed, MacroFault, PinsListed};
+ghost use Rattle.eco_full.specs.Stages.{value_of, NetsListed, PartsListed, MacroFault};
 
 use crate::fault::DesignFault;
 use crate::found_pins::find_pins;
@@ -71,8 +71,9 @@ pub fn list_netlist<M: Macros>(
     let nets = design.nets.as_slice();
     let supplies = first_supplies(alloc, text, nets)?;
     let mut maker = list_parts(alloc, text, design, macros, &supplies)?;
+    let _listing = maker.counts();
     let pins = find_pins(alloc, &maker, text, nets)?;
-    join_pins(&mut maker, &pins)?;
+    join_pins(&mut maker, pins.as_slice())?;
     if !supplies_agree(text, nets, &supplies) {
         return Err(DesignFault::SupplyDiffers);
     }

@@ -1,4 +1,4 @@
-use Rattle.std.proofs.Common.{◌≡◌, ◌∙◌, false, [], ◌∷◌, Some, None, sym, ap, ap₂, subst}
+use Rattle.std.proofs.Common.{◌≡◌, ◌∙◌, false, [], ◌∷◌, None, sym, ap, subst}
 use Rattle.eco_def.specs.Named.{NamedJoint}
 use Rattle.eco_issued.specs.Changes.{is_no_component}
 use Rattle.eco_net.specs.Netlist.{Name}

@@ -1,4 +1,4 @@
-use Rattle.std.proofs.Common.{◌+◌, List, take, get_or, sym, subst}
+use Rattle.std.proofs.Common.{List, take, get_or, sym, subst}
 use Rattle.std.proofs.lemmas.List.{take_more}
 use Rattle.std.proofs.lemmas.Result.{err_from_is_err_and}
 use Rattle.eco_net.proofs.Basics.{Has, contains_from_has}

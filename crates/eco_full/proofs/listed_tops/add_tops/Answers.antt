@@ -1,6 +1,5 @@
-use Rattle.std.proofs.Common.{◌≡◌, ◌<◌, ◌≤◌, ◌+◌, arith, [], ◌∷◌, List, length, map, take, get_or, sym, ap, subst}
+use Rattle.std.proofs.Common.{[], List, get_or, sym, subst}
 use Rattle.std.proofs.lemmas.Option.{slice_get-get_or}
-use Rattle.std.proofs.lemmas.List.{length-map, length-take}
 use Rattle.eco_def.specs.declared.design.TopPin.{TopPin}
 use Rattle.eco_def.specs.Named.{NamedPin}
 use Rattle.eco_net.specs.Netlist.{Netlist, IsNet}
