@@ -19,7 +19,7 @@ use Rattle.eco_full.proofs.Nets.{supply_among}
 
 -- ---- supplies
 
-supply_found : (ss : List NamedNet) (n : Name) (b : Bool) → supply_among ss n ≡ Some b → (s : NamedNet) × Has ss s × (s.name ≡ n) × (supply_by s.usage ≡ Some b)
+pub supply_found : (ss : List NamedNet) (n : Name) (b : Bool) → supply_among ss n ≡ Some b → (s : NamedNet) × Has ss s × (s.name ≡ n) × (supply_by s.usage ≡ Some b)
 supply_found [] n b e = absurd (not_None (sym e))
 supply_found (s ∷ ss) n b e = go (bytes_eq s.name n) refl (supply_by s.usage) refl (λ f. supply_found ss n b f) e
   where
@@ -31,7 +31,7 @@ supply_found (s ∷ ss) n b e = go (bytes_eq s.name n) refl (supply_by s.usage) 
     go true t (Some a) o rest f = (s, inl refl, same_name s.name n t, o ∙ sym (ap (λ u. first_some (u ∷ map (λ s. supply_by s.usage) (filter (λ s. bytes_eq s.name n) ss))) o) ∙ f)
     go false t o u rest f = let r = rest f in (r.0, inr r.1, r.2, r.3)
 
-supply_stands : (ss : List NamedNet) (n : Name) (s : NamedNet) (b : Bool) → Has ss s → s.name ≡ n → supply_by s.usage ≡ Some b → (a : Bool) × (supply_among ss n ≡ Some a)
+pub supply_stands : (ss : List NamedNet) (n : Name) (s : NamedNet) (b : Bool) → Has ss s → s.name ≡ n → supply_by s.usage ≡ Some b → (a : Bool) × (supply_among ss n ≡ Some a)
 supply_stands [] n s b h e f = absurd h
 supply_stands (z ∷ zs) n s b h e f = go (bytes_eq z.name n) refl (supply_by z.usage) refl (λ i. supply_stands zs n s b i e f) h
   where

@@ -26,7 +26,7 @@ use Rattle.eco_full.proofs.Rewiring.{its_wires, among}
 -- ---- by the design, and by its netlist
 
 -- a name among a kind's pins has a role
-has_role : (k : Kind) (p : Name) → Has (pin_names k) p → (r : Role) × (fin.find name_cmp p (pins_of k) ≡ Some r)
+pub has_role : (k : Kind) (p : Name) → Has (pin_names k) p → (r : Role) × (fin.find name_cmp p (pins_of k) ≡ Some r)
 has_role k p h = go (fin.find name_cmp p (pins_of k)) refl (sym (named_pin (pins_of k) p) ∙ has_any (λ q. bytes_eq q p) (pin_names k) p h (is_name p p refl))
   where
     go : (o : Option Role) → fin.find name_cmp p (pins_of k) ≡ o → is_some (fin.find name_cmp p (pins_of k)) ≡ true → (r : Role) × (fin.find name_cmp p (pins_of k) ≡ Some r)

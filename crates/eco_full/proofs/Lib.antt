@@ -11,6 +11,11 @@ pub mod Rewiring
 pub mod Telling
 pub mod Keeping
 pub mod Joinable
+pub mod Fillers
+pub mod Adding
+pub mod Valued
+pub mod Stating
+pub mod Assembling
 pub mod ReadOnce
 pub mod Unchanged
 mod Examples

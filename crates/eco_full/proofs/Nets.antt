@@ -11,6 +11,7 @@ use Rattle.eco_issued.specs.Changes.{NewJoint, Fresh, has_statement, new_pins, p
 use Rattle.eco_issued.specs.Issued.{issued_net, fresh_net, issued_design}
 use Rattle.eco_net.specs.Netlist.{Name, IsNet}
 use Rattle.eco_net.proofs.Basics.{Has, has_map, has_of_map, has_append_left, has_append_right, not_None}
+pub use Rattle.eco_full.specs.Stated.{supply_among}
 use Rattle.eco_full.specs.Netlists.{Kinds, statements, has_net, supply_by, supply_in, netlist_of}
 use Rattle.eco_full.proofs.Names.{or_none, same_name, is_name}
 use Rattle.eco_full.proofs.Members.{has_of_append, any_has, has_any, of_filter, of_order, to_order, of_once}
@@ -28,9 +29,6 @@ pub net_unknown : (kinds : Kinds) (ties : List Name) (d : NamedDesign) (n : Name
 net_unknown kinds ties d n none = false_from_ne_true (has_net d n) (λ e. not_None (sym (known_net kinds ties d n e).1 ∙ none))
 
 -- ---- supplies
-
-abbrev pub supply_among : List NamedNet → Name → Option Bool
-supply_among ss q = first_some (map (λ s. supply_by s.usage) (filter (λ s. bytes_eq s.name q) ss))
 
 pub supply_among-append : (xs ys : List NamedNet) (q : Name) → supply_among (xs ++ ys) q ≡ option_or (supply_among xs q) (supply_among ys q)
 supply_among-append [] ys q = refl

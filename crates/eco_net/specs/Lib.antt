@@ -9,8 +9,8 @@ pub mod Laws
 pub mod Index
 pub mod Listing
 pub mod Changes
-pub mod PinOrder
 pub mod ByNumber
+pub mod PinOrder
 pub mod Kept
 pub mod Pins
 pub mod Gates
@@ -19,4 +19,6 @@ pub mod Search
 pub mod LevelsOf
 pub mod Rings
 pub mod KeysOf
+pub mod Seen
+pub mod SinksOf
 pub mod ValuesOf

@@ -13,12 +13,15 @@ mod joints;
 mod kind;
 mod laws;
 mod levels;
+mod listed;
 mod maker;
 mod netlist;
+mod observables;
 mod pins;
 mod reading;
 mod rows;
 mod search;
+mod sinks;
 mod walk;
 
 pub use crate::cut::{CutKey, CutValues};

@@ -1,0 +1,19 @@
+-- Values that stand where a list has none.
+use Rattle.std.proofs.Common.{false, None}
+use Rattle.eco_text.specs.declared.geometry.Dir.TheVariants.{Input}
+use Rattle.eco_text.specs.declared.word.Word.{Word}
+use Rattle.eco_def.specs.declared.design.Comp.{Comp}
+use Rattle.eco_def.specs.declared.design.Joint.{Joint}
+use Rattle.eco_def.specs.declared.design.TopPin.{TopPin}
+
+abbrev pub no_word : Word
+no_word = record { start = 0; end = 0; quoted = false }
+
+abbrev pub no_comp : Comp
+no_comp = record { name = no_word; model = no_word; place = None }
+
+abbrev pub no_joint : Joint
+no_joint = record { comp = no_word; pin = no_word; start = 0; end = 0 }
+
+abbrev pub no_pin : TopPin
+no_pin = record { name = no_word; net = no_word; dir = Input; supply = false }

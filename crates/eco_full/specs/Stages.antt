@@ -1,0 +1,112 @@
+-- What each stage of listing a design adds to the netlist.
+use mathlib.Core.Bool.{beq}
+use Rattle.std.specs.Prelude.{◌≡◌, ℕ, ◌+◌, ◌<◌, ◌≤◌, Bool, true, false, cond, ◌↔◌, List, [], ◌∷◌, ◌++◌, length, map, Option, Some, None, slice_get}
+use Rattle.std.specs.List.{Contains, list_any, All}
+use Rattle.std.specs.Option.{option_map, unwrap_or}
+use Rattle.std.specs.Str.{bytes_eq}
+use Rattle.std.specs.Borrow.{Bor}
+use Rattle.std.specs.FinMap.{get, empty}
+use Rattle.std.specs.HashMap.{HashMap, get_by}
+use Rattle.std.specs.declared.hash.FoldHasher.{FoldHasher}
+use Rattle.std.specs.declared.hash.BuildHasherDefault.{BuildHasherDefault}
+use Rattle.eco_def.specs.Named.{NamedComp, NamedPin, NamedNet}
+use Rattle.eco_issued.specs.Changes.{NewJoint}
+use Rattle.eco_net.specs.declared.rows.CompRow.{CompRow}
+use Rattle.eco_net.specs.declared.ids.PinRef.TheVariants.{Pin}
+use Rattle.eco_net.specs.Netlist.{Name, Kind, Component, Top, Netlist}
+use Rattle.eco_net.specs.Listing.{Listing, netlist, net_name, pins, IsKnownPin}
+use Rattle.eco_full.specs.declared.fault.DesignFault.{DesignFault}
+use Rattle.eco_full.specs.declared.fault.DesignFault.TheVariants.{UnknownMacro, UnknownPin, PinNetDiffers, SupplyDiffers, Memory}
+use Rattle.eco_full.specs.declared.joined_pin.JoinedPin.{JoinedPin}
+use Rattle.eco_full.specs.Netlists.{Kinds, supply_by, top_of}
+use Rattle.eco_full.specs.Stated.{supply_among}
+
+-- ---- supplies
+
+-- the value of a net by a map of supplies
+abbrev pub value_of : HashMap (Bor (List ℕ)) Bool (BuildHasherDefault FoldHasher) → Name → Option Bool
+value_of values n = get_by (λ k. bytes_eq n k.now) values
+
+-- the first of two values is none, or the second says no other
+abbrev pub agree : Option Bool → Option Bool → Bool
+agree (Some a) (Some b) = beq a b
+agree a b = true
+
+-- a statement gives its net no other value than it has
+abbrev pub keeps_value : (Name → Option Bool) → NamedNet → Bool
+keeps_value value s = agree (supply_by s.usage) (value s.name)
+
+-- ---- nets
+
+-- the nets are those of these names, each a supply of its value
+abbrev pub NetsAre : (Name → Option Bool) → List Name → Netlist → Type 0
+NetsAre value names N = (n : Name) → get N.nets n ≡ cond (list_any (λ m. bytes_eq m n) names) (Some (value n)) None
+
+-- nets of these names are added, each once and only where it isn't there
+pub record AddsNets (value : Name → Option Bool) (names : List Name) (L M : Listing) : Type 0 where
+  pub nets : (before : List Name) → NetsAre value before (netlist L) → NetsAre value (before ++ names) (netlist M)
+  pub others : netlist M ≡ record (netlist L) { nets = (netlist M).nets }
+  pub rows : M ≡ record L { nets = M.nets }
+  pub few : length M.nets ≤ length L.nets + length names
+
+-- ---- components
+
+-- the component by its macro and its place, with its pins on no net
+pub record IsOffNets (kinds : Kinds) (c : NamedComp) (x : Component) : Type 0 where
+  pub kind : kinds c.model ≡ Some x.kind
+  pub place : x.place ≡ option_map (λ p. p.point) c.place
+  pub joined : x.joined ≡ empty
+
+-- the components are these, with their pins on no net
+pub record CompsAre (kinds : Kinds) (cs : List NamedComp) (N : Netlist) : Type 0 where
+  pub each : (c : NamedComp) → Contains cs c → (x : Component) × (get N.comps c.name ≡ Some x) × IsOffNets kinds c x
+  pub only : (n : Name) (x : Component) → get N.comps n ≡ Some x → (c : NamedComp) × Contains cs c × (c.name ≡ n) × IsOffNets kinds c x
+
+-- these components are added, with their pins on no net
+pub record AddsComps (kinds : Kinds) (cs : List NamedComp) (L M : Listing) : Type 0 where
+  pub comps : (before : List NamedComp) → CompsAre kinds before (netlist L) → CompsAre kinds (before ++ cs) (netlist M)
+  pub others : netlist M ≡ record (netlist L) { comps = (netlist M).comps }
+  pub rows : M ≡ record L { comps = M.comps }
+  pub count : length M.comps ≡ length L.comps + length cs
+
+-- a component's macro isn't known, or memory ran out
+abbrev pub MacroFault : Kinds → List NamedComp → DesignFault → Type 0
+MacroFault kinds cs UnknownMacro = (c : NamedComp) × Contains cs c × (kinds c.model ≡ None)
+MacroFault kinds cs UnknownPin = ⊥
+MacroFault kinds cs PinNetDiffers = ⊥
+MacroFault kinds cs SupplyDiffers = ⊥
+MacroFault kinds cs Memory = Unit {0}
+
+-- ---- top pins
+
+-- the top pins are those of these that aren't supply
+abbrev pub TopsAre : List NamedPin → Netlist → Type 0
+TopsAre ps N = (t : Name) (x : Top) → (get N.tops t ≡ Some x) ↔ ((p : NamedPin) × Contains ps p × (p.supply ≡ false) × (p.name ≡ t) × (top_of p ≡ x))
+
+-- those of these top pins that aren't supply are added
+pub record AddsTops (ps : List NamedPin) (L M : Listing) : Type 0 where
+  pub tops : (before : List NamedPin) → TopsAre before (netlist L) → TopsAre (before ++ ps) (netlist M)
+  pub others : netlist M ≡ record (netlist L) { tops = (netlist M).tops }
+  pub rows : M ≡ record L { tops = M.tops }
+  pub few : length M.tops ≤ length L.tops + length ps
+
+-- ---- pins on nets
+
+abbrev pub comp_name : Option CompRow → Name
+comp_name None = []
+comp_name (Some r) = r.name
+
+abbrev pub pin_name : Option CompRow → ℕ → Name
+pin_name None k = []
+pin_name (Some r) k = unwrap_or (option_map (λ p. p.0) (slice_get (pins r) k)) []
+
+-- the pin and its net, by names
+abbrev pub joint_of : Listing → JoinedPin → NewJoint
+joint_of L p = record { comp = comp_name (slice_get L.comps p.comp.0); pin = pin_name (slice_get L.comps p.comp.0) p.pin; net = net_name L.nets p.net.0 }
+
+abbrev pub joints_of : Listing → List JoinedPin → List NewJoint
+joints_of L ps = map (joint_of L) ps
+
+-- pin and net are those of a listing
+abbrev pub IsKnownJoint : Listing → JoinedPin → Type 0
+IsKnownJoint L p = IsKnownPin L (Pin p.comp p.pin) × (p.net.0 < length L.nets)

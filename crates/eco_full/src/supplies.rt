@@ -1,0 +1,88 @@
+//! Which nets are supplies.
+
+ghost use Rattle.std.specs.Prelude.{◌≡◌, ℕ, List, [], ◌∷◌, Some, None, IfOk, OnOk, if◌then◌else◌};
+ghost use Rattle.std.specs.List.{list_all};
+ghost use Rattle.std.specs.Option.{option_or};
+ghost use Rattle.std.specs.Str.{bytes_eq};
+ghost use Rattle.eco_full.specs.Netlists.{supply_by as value_by};
+ghost use Rattle.eco_full.specs.Stated.{named_net, named_nets, supply_among};
+ghost use Rattle.eco_full.specs.Stages.{value_of, keeps_value};
+
+use crate::words::bytes_at;
+use eco_def::NetStatement;
+use std::alloc::{AllocError, Global};
+use std::collections::HashMap;
+
+/// The values of the nets that are supplies.
+pub type Supplies<'a> = HashMap<&'a [u8], bool>;
+
+/// The value that a statement gives its net, if it makes it a supply.
+fn supply_by(text: &[u8], net: &NetStatement) -> Option<bool>
+    ensures { result ≡ value_by (named_net text.now net.now).usage }
+{
+    match bytes_at(text, net.usage?) {
+        b"POWER" => Some(true),
+        b"GROUND" => Some(false),
+        _ => None,
+    }
+}
+
+/// The value of a net, if it is a supply.
+pub fn supply_of(supplies: &Supplies<'_>, name: &[u8]) -> Option<bool>
+    ensures { result ≡ value_of supplies.now name.now }
+{
+    supplies.get(&name).copied()
+}
+
+/// Gives a net its value, unless it has one.
+fn add_supply<'a>(supplies: &mut Supplies<'a>, name: &'a [u8], value: bool) -> Result<(), AllocError>
+    ensures { OnOk result ((n : List ℕ) → value_of supplies.new n ≡ option_or (value_of supplies.old n) (if bytes_eq name.now n then Some value else None)) }
+{
+    if !supplies.contains_key(&name) {
+        supplies.insert(name, value)?;
+    }
+    Ok(())
+}
+
+/// Gives a statement's net the value by the statement, unless it has one.
+fn add_stated<'a>(supplies: &mut Supplies<'a>, text: &'a [u8], net: &NetStatement) -> Result<(), AllocError>
+    ensures { OnOk result ((n : List ℕ) → value_of supplies.new n ≡ option_or (value_of supplies.old n) (supply_among (named_net text.now net.now ∷ []) n)) }
+{
+    match supply_by(text, net) {
+        Some(value) => add_supply(supplies, bytes_at(text, net.name), value),
+        None => Ok(()),
+    }
+}
+
+/// The supplies, each with the value by the first of its statements that gives it one.
+pub fn first_supplies<'a>(
+    alloc: Global,
+    text: &'a [u8],
+    nets: &[NetStatement],
+) -> Result<Supplies<'a>, AllocError>
+    ensures { IfOk result (λ supplies. (n : List ℕ) → value_of supplies n ≡ supply_among (named_nets text.now nets.now) n) }
+{
+    let mut supplies = HashMap::new(alloc);
+    for net in nets {
+        add_stated(&mut supplies, text, net)?;
+    }
+    Ok(supplies)
+}
+
+/// Whether a statement gives its net no other value than the first one does.
+fn keeps_supply(text: &[u8], net: &NetStatement, supplies: &Supplies<'_>) -> bool
+    ensures { result ≡ keeps_value (value_of supplies.now) (named_net text.now net.now) }
+{
+    let first = supply_of(supplies, bytes_at(text, net.name));
+    match (supply_by(text, net), first) {
+        (Some(value), Some(first)) => value == first,
+        _ => true,
+    }
+}
+
+/// Whether no net has two values.
+pub fn supplies_agree(text: &[u8], nets: &[NetStatement], supplies: &Supplies<'_>) -> bool
+    ensures { result ≡ list_all (λ s. keeps_value (value_of supplies.now) (named_net text.now s)) nets.now }
+{
+    nets.iter().all(|net| keeps_supply(text, net, supplies))
+}
