@@ -16,3 +16,5 @@ pub mod NewNames
 pub mod Macros
 pub mod SameJoints
 pub mod Applying
+pub mod TiedTests
+pub mod Opening

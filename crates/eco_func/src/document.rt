@@ -1,7 +1,7 @@
 //! Masters of a TOML document.
 
 ghost use Rattle.std.specs.Prelude.{◌≡◌, ◌≤◌, ◌&&◌, ◌||◌, not, nat_le, IfOk, MatchOption, List, ℕ, Ok, Err, length, true, ◌<◌, option_map, option_and_then, string_bytes, codes};
-ghost use Rattle.std.specs.List.{list_any};
+ghost use Rattle.std.specs.List.{list_any, All};
 ghost use Rattle.std.specs.List.Sorted.{IsStrictlySortedBy};
 ghost use Rattle.std.specs.Map.{keys_of};
 ghost use Rattle.std.specs.String.{string_cmp};
@@ -242,7 +242,8 @@ fn other_field(fields: &Table) -> Option<&str>
 
 /// The master of this name.
 fn read_master(alloc: Global, name: &str, value: &Value) -> Result<MasterFn, FuncFault>
-    ensures { Gives (λ m. m) (master_of name.now (view value.now)) result }
+    ensures said { Gives (λ m. m) (master_of name.now (view value.now)) result }
+    ensures makes { IfOk result (λ m. is_master m.inputs m.outputs ≡ true) }
 {
     let bytes = name.as_bytes();
     let Some(fields) = value.as_table() else {
@@ -259,7 +260,8 @@ fn read_master(alloc: Global, name: &str, value: &Value) -> Result<MasterFn, Fun
 
 /// All masters, in the order of the document.
 pub fn read_masters(alloc: Global, document: &Table) -> Result<Vec<MasterFn>, FuncFault>
-    ensures { Gives (λ masters. masters.items) (masters_of (table_view document.now)) result }
+    ensures said { Gives (λ masters. masters.items) (masters_of (table_view document.now)) result }
+    ensures make { IfOk result (λ masters. All (λ m. is_master m.inputs m.outputs ≡ true) masters.items) }
 {
     let mut masters = Vec::new(alloc);
     for (name, value) in document {

@@ -1,6 +1,9 @@
 //! The functions file.
 
+ghost use Rattle.std.specs.Prelude.{◌≡◌, true, IfOk};
+ghost use Rattle.std.specs.List.{All};
 ghost use Rattle.eco_func.specs.FunctionsFile.{Reads};
+ghost use Rattle.eco_func.specs.Masters.{is_master};
 
 use crate::document::read_masters;
 use crate::fault::FuncFault;
@@ -13,7 +16,8 @@ const MOST_MASTERS: usize = 16_384;
 /// The functions that a text gives: a TOML document with a table per master, each output a table of 0 and 1 or an
 /// expression. Else its first fault.
 pub fn read_functions(alloc: Global, text: &[u8]) -> Result<Functions, FuncFault>
-    ensures { Reads text.now result }
+    ensures reads { Reads text.now result }
+    ensures masters { IfOk result (λ functions. All (λ m. is_master m.inputs m.outputs ≡ true) functions) }
 {
     let document = match toml::table_from_slice(alloc, text) {
         Ok(document) => document,
