@@ -1,16 +1,49 @@
 #!/usr/bin/env python3
-"""Runs a command and prints its user time and its greatest memory: measure.py NAME COMMAND.."""
+"""Runs a command and prints its user time and its greatest memory:
+measure.py [--times N] [--limit SECONDS] [--says TEXT] NAME COMMAND..
+
+Of N runs it prints the one of least user time. A run that takes more processor time than the limit is stopped, and said to
+be. Where a text is given, each run that ends must print it.
+"""
+import os
 import resource
+import signal
 import subprocess
 import sys
+import tempfile
+
+
+def run(command, limit):
+    def bound():
+        resource.setrlimit(resource.RLIMIT_CPU, (limit, limit + 1))
+
+    with tempfile.TemporaryFile() as printed:
+        done = subprocess.Popen(command, stdin=subprocess.DEVNULL, stdout=printed, stderr=printed, preexec_fn=bound if limit else None)
+        _, status, used = os.wait4(done.pid, 0)
+        done.returncode = os.waitstatus_to_exitcode(status)
+        printed.seek(0)
+        return used, done.returncode, printed.read()
 
 
 def main():
-    done = subprocess.run(sys.argv[2:], stdout=subprocess.DEVNULL)
-    used = resource.getrusage(resource.RUSAGE_CHILDREN)
-    print("%-28s user %6.2f s  system %5.2f s  memory %7.1f MB" % (sys.argv[1], used.ru_utime, used.ru_stime, used.ru_maxrss / 1024))
-    if done.returncode != 0:
-        sys.exit("%s: status %d" % (sys.argv[1], done.returncode))
+    words = sys.argv[1:]
+    options = {"--times": "1", "--limit": "0", "--says": ""}
+    while words[0] in options:
+        options[words[0]] = words[1]
+        words = words[2:]
+    name, command = words[0], words[1:]
+    runs = []
+    for _ in range(int(options["--times"])):
+        used, status, printed = run(command, int(options["--limit"]))
+        runs.append((used.ru_utime, used.ru_stime, used.ru_maxrss / 1024))
+        if status != 0:
+            break
+        if options["--says"].encode() not in printed:
+            sys.exit("%s: didn't print %s" % (name, options["--says"]))
+    stopped = "  stopped" if status in (-signal.SIGXCPU, -signal.SIGKILL) else ""
+    print("%-28s user %6.2f s  system %5.2f s  memory %7.1f MB%s" % ((name,) + min(runs) + (stopped,)))
+    if status != 0 and not stopped:
+        sys.exit("%s: status %d" % (name, status))
 
 
 main()

@@ -158,147 +158,159 @@ fn masters_are_found_by_name(rt: HostRuntime) -> Result<(), Fail> {
     Ok(())
 }
 
+/// Texts, and the masters that they are read as.
+const READ: [(&str, &str); 28] = [
+    ("", ""),
+    ("END LIBRARY MACRO A END A \"", ""),
+    ("MACRO A END A # END LIBRARY\nMACRO B END B", "A 0x0;B 0x0;"),
+    (
+        "MACRO A\r\nSIZE 4.800 BY 20.000 ;\r\nEND A\r\n",
+        "A 4800000x20000000;",
+    ),
+    (
+        "MACRO A SIZE 1 BY 2 ; SIZE 3 BY 4 ; END A",
+        "A 1000000x2000000;",
+    ),
+    (
+        "USEMINSPACING OBS ON ; CLEARANCEMEASURE EUCLIDEAN ; MANUFACTURINGGRID 0.005 ; MACRO A END A",
+        "A 0x0;",
+    ),
+    (
+        "LAYER M1 TYPE ROUTING ; SPACING 0.1 ; MACRO X END M1 MACRO A END A",
+        "A 0x0;",
+    ),
+    (
+        "VIA v DEFAULT LAYER M1 ; END v VIARULE r GENERATE LAYER M1 ; END r MACRO A END A",
+        "A 0x0;",
+    ),
+    (
+        "SITE core CLASS CORE ; END core NONDEFAULTRULE n END n MACRO A END A",
+        "A 0x0;",
+    ),
+    (
+        "UNITS DATABASE MICRONS 1000 ; END UNITS PROPERTYDEFINITIONS MACRO m REAL ; END PROPERTYDEFINITIONS",
+        "",
+    ),
+    (
+        "SPACING SAMENET M1 M1 0.1 ; END END SPACING MACRO A END A",
+        "A 0x0;",
+    ),
+    (
+        "BEGINEXT \"note\" MACRO X END X ENDEXT MACRO A END A",
+        "A 0x0;",
+    ),
+    ("END END LIBRARY ; MACRO A END A", "A 0x0;"),
+    ("; ; MACRO A ; ; PIN P ; ; END P END A", "A 0x0 -P;"),
+    (
+        "MACRO A OBS LAYER M1 ; RECT 0 0 1 1 ; END DENSITY LAYER M1 ; END END A",
+        "A 0x0;",
+    ),
+    ("MACRO A END B SIZE 1 BY 1 ; END A", "A 1000000x1000000;"),
+    (
+        "MACRO A PIN P END A DIRECTION INPUT ; END P END A",
+        "A 0x0 <P;",
+    ),
+    (
+        "MACRO A PIN P DIRECTION OUTPUT TRISTATE ; END P END A",
+        "A 0x0 >P;",
+    ),
+    (
+        "MACRO A PIN P DIRECTION FEEDTHRU ; END P END A",
+        "A 0x0 -P;",
+    ),
+    (
+        "MACRO A PIN P DIRECTION INPUT ; DIRECTION OUTPUT ; END P END A",
+        "A 0x0 <P;",
+    ),
+    (
+        "MACRO A PIN P USE SIGNAL ; USE POWER ; END P END A",
+        "A 0x0 -P;",
+    ),
+    (
+        "MACRO A PIN P USE POWER x ; USE GROUND ; END P END A",
+        "A 0x0 -P;",
+    ),
+    (
+        "MACRO A PIN P USE ; END P PIN Q USE GROUND ; END Q END A",
+        "A 0x0 -P +Q;",
+    ),
+    (
+        "MACRO A PIN P MUSTJOIN Q ; PORT DIRECTION x END END P END A",
+        "A 0x0 -P;",
+    ),
+    (
+        "MACRO u1\\[0\\] PIN a[1] END a[1] END u1\\[0\\]",
+        "u1\\[0\\] 0x0 -a[1];",
+    ),
+    (
+        "MACRO A PIN P END P END A MACRO B PIN P END P END B",
+        "A 0x0 -P;B 0x0 -P;",
+    ),
+    (
+        "LAYER M1\n  TYPE ROUTING ;\n  SPACING 0.1 ;\nEND M1\n\nMACRO n$1<2>\n  PIN q\\[0\\]  \n    DIRECTION OUTPUT TRISTATE  ;\n    USE SIGNAL\n    ;\n  END q\\[0\\]\n  OBS\n    LAYER M1\n    ;\n  END\nEND n$1<2>\n",
+        "n$1<2> 0x0 >q\\[0\\];",
+    ),
+    (
+        "MACRO A PIN P END P SIZE 1 BY 1 ; END A",
+        "A 1000000x1000000 -P;",
+    ),
+];
+
 #[test]
 fn statements_and_blocks_of_all_kinds(rt: HostRuntime) -> Result<(), Fail> {
-    let texts = [
-        ("", ""),
-        ("END LIBRARY MACRO A END A \"", ""),
-        ("MACRO A END A # END LIBRARY\nMACRO B END B", "A 0x0;B 0x0;"),
-        (
-            "MACRO A\r\nSIZE 4.800 BY 20.000 ;\r\nEND A\r\n",
-            "A 4800000x20000000;",
-        ),
-        (
-            "MACRO A SIZE 1 BY 2 ; SIZE 3 BY 4 ; END A",
-            "A 1000000x2000000;",
-        ),
-        (
-            "USEMINSPACING OBS ON ; CLEARANCEMEASURE EUCLIDEAN ; MANUFACTURINGGRID 0.005 ; MACRO A END A",
-            "A 0x0;",
-        ),
-        (
-            "LAYER M1 TYPE ROUTING ; SPACING 0.1 ; MACRO X END M1 MACRO A END A",
-            "A 0x0;",
-        ),
-        (
-            "VIA v DEFAULT LAYER M1 ; END v VIARULE r GENERATE LAYER M1 ; END r MACRO A END A",
-            "A 0x0;",
-        ),
-        (
-            "SITE core CLASS CORE ; END core NONDEFAULTRULE n END n MACRO A END A",
-            "A 0x0;",
-        ),
-        (
-            "UNITS DATABASE MICRONS 1000 ; END UNITS PROPERTYDEFINITIONS MACRO m REAL ; END PROPERTYDEFINITIONS",
-            "",
-        ),
-        (
-            "SPACING SAMENET M1 M1 0.1 ; END END SPACING MACRO A END A",
-            "A 0x0;",
-        ),
-        (
-            "BEGINEXT \"note\" MACRO X END X ENDEXT MACRO A END A",
-            "A 0x0;",
-        ),
-        ("END END LIBRARY ; MACRO A END A", "A 0x0;"),
-        ("; ; MACRO A ; ; PIN P ; ; END P END A", "A 0x0 -P;"),
-        (
-            "MACRO A OBS LAYER M1 ; RECT 0 0 1 1 ; END DENSITY LAYER M1 ; END END A",
-            "A 0x0;",
-        ),
-        ("MACRO A END B SIZE 1 BY 1 ; END A", "A 1000000x1000000;"),
-        (
-            "MACRO A PIN P END A DIRECTION INPUT ; END P END A",
-            "A 0x0 <P;",
-        ),
-        (
-            "MACRO A PIN P DIRECTION OUTPUT TRISTATE ; END P END A",
-            "A 0x0 >P;",
-        ),
-        (
-            "MACRO A PIN P DIRECTION FEEDTHRU ; END P END A",
-            "A 0x0 -P;",
-        ),
-        (
-            "MACRO A PIN P DIRECTION INPUT ; DIRECTION OUTPUT ; END P END A",
-            "A 0x0 <P;",
-        ),
-        (
-            "MACRO A PIN P USE SIGNAL ; USE POWER ; END P END A",
-            "A 0x0 -P;",
-        ),
-        (
-            "MACRO A PIN P USE POWER x ; USE GROUND ; END P END A",
-            "A 0x0 -P;",
-        ),
-        (
-            "MACRO A PIN P USE ; END P PIN Q USE GROUND ; END Q END A",
-            "A 0x0 -P +Q;",
-        ),
-        (
-            "MACRO A PIN P MUSTJOIN Q ; PORT DIRECTION x END END P END A",
-            "A 0x0 -P;",
-        ),
-        (
-            "MACRO u1\\[0\\] PIN a[1] END a[1] END u1\\[0\\]",
-            "u1\\[0\\] 0x0 -a[1];",
-        ),
-        (
-            "MACRO A PIN P END P END A MACRO B PIN P END P END B",
-            "A 0x0 -P;B 0x0 -P;",
-        ),
-    ];
-    for (text, wanted) in texts {
+    for (text, wanted) in READ {
         assert_eq!(rt; told(&rt, rt.alloc(), text)?.as_str(), wanted, "{text}");
     }
     Ok(())
 }
 
+/// Texts, and their first faults.
+const FAULTS: [(&str, &str); 34] = [
+    ("MACRO A \"b", "OpenQuote 8"),
+    ("END \"", "OpenQuote 4"),
+    ("VERSION 5.8", "Unended VERSION"),
+    ("\"a b\" c", "Unended \"a b\""),
+    ("MACRO", "Unended MACRO"),
+    ("LAYER", "Unended LAYER"),
+    ("LAYER M1 END M2", "Unended M1"),
+    ("UNITS DATABASE MICRONS 1000 ; END", "Unended UNITS"),
+    ("BEGINEXT \"note\" ENDEX", "Unended BEGINEXT"),
+    ("MACRO INV", "Unended INV"),
+    ("MACRO INV SIZE 1 BY", "Unended INV"),
+    ("MACRO INV OBS LAYER M1 ;", "Unended INV"),
+    ("MACRO INV PIN", "Unended INV"),
+    ("MACRO INV PIN A", "Unended A"),
+    ("MACRO INV PIN A DIRECTION INPUT", "Unended A"),
+    ("MACRO INV PIN A USE POWER", "Unended A"),
+    ("MACRO INV PIN A PORT LAYER M1 ;", "Unended A"),
+    ("MACRO INV PIN A END A", "Unended INV"),
+    ("MACRO INV END", "Unended INV"),
+    ("MACRO A END A MACRO A", "TwiceNamed 20"),
+    ("MACRO A PIN P END P PIN P", "TwiceNamed 24"),
+    ("MACRO A END A ARRAY x", "ArrayBlock 14"),
+    ("MACRO ;", "BadStatement 6"),
+    ("MACRO \"A\"", "BadStatement 6"),
+    ("VIA ; ", "BadStatement 4"),
+    ("MACRO A PIN (", "BadStatement 12"),
+    ("MACRO A SIZE x BY 1 ;", "BadStatement 13"),
+    ("MACRO A SIZE 1 1 ;", "BadStatement 15"),
+    ("MACRO A SIZE 1 BY 10000.1 ;", "BadStatement 18"),
+    ("MACRO A SIZE 1 BY 1 SYMMETRY", "BadStatement 20"),
+    ("MACRO A SIZE 1 BY 1 ; SIZE 1 BY ;", "BadStatement 32"),
+    ("MACRO A PIN P DIRECTION UP ;", "BadStatement 24"),
+    (
+        "MACRO A PIN P DIRECTION INPUT TRISTATE ;",
+        "BadStatement 30",
+    ),
+    (
+        "MACRO A PIN P DIRECTION INPUT ; DIRECTION ;",
+        "BadStatement 42",
+    ),
+];
+
 #[test]
 fn the_first_fault_of_a_text(rt: HostRuntime) -> Result<(), Fail> {
-    let texts = [
-        ("MACRO A \"b", "OpenQuote 8"),
-        ("END \"", "OpenQuote 4"),
-        ("VERSION 5.8", "Unended VERSION"),
-        ("\"a b\" c", "Unended \"a b\""),
-        ("MACRO", "Unended MACRO"),
-        ("LAYER", "Unended LAYER"),
-        ("LAYER M1 END M2", "Unended M1"),
-        ("UNITS DATABASE MICRONS 1000 ; END", "Unended UNITS"),
-        ("BEGINEXT \"note\" ENDEX", "Unended BEGINEXT"),
-        ("MACRO INV", "Unended INV"),
-        ("MACRO INV SIZE 1 BY", "Unended INV"),
-        ("MACRO INV OBS LAYER M1 ;", "Unended INV"),
-        ("MACRO INV PIN", "Unended INV"),
-        ("MACRO INV PIN A", "Unended A"),
-        ("MACRO INV PIN A DIRECTION INPUT", "Unended A"),
-        ("MACRO INV PIN A USE POWER", "Unended A"),
-        ("MACRO INV PIN A PORT LAYER M1 ;", "Unended A"),
-        ("MACRO INV PIN A END A", "Unended INV"),
-        ("MACRO INV END", "Unended INV"),
-        ("MACRO A END A MACRO A", "TwiceNamed 20"),
-        ("MACRO A PIN P END P PIN P", "TwiceNamed 24"),
-        ("MACRO A END A ARRAY x", "ArrayBlock 14"),
-        ("MACRO ;", "BadStatement 6"),
-        ("MACRO \"A\"", "BadStatement 6"),
-        ("VIA ; ", "BadStatement 4"),
-        ("MACRO A PIN (", "BadStatement 12"),
-        ("MACRO A SIZE x BY 1 ;", "BadStatement 13"),
-        ("MACRO A SIZE 1 1 ;", "BadStatement 15"),
-        ("MACRO A SIZE 1 BY 10000.1 ;", "BadStatement 18"),
-        ("MACRO A SIZE 1 BY 1 SYMMETRY", "BadStatement 20"),
-        ("MACRO A SIZE 1 BY 1 ; SIZE 1 BY ;", "BadStatement 32"),
-        ("MACRO A PIN P DIRECTION UP ;", "BadStatement 24"),
-        (
-            "MACRO A PIN P DIRECTION INPUT TRISTATE ;",
-            "BadStatement 30",
-        ),
-        (
-            "MACRO A PIN P DIRECTION INPUT ; DIRECTION ;",
-            "BadStatement 42",
-        ),
-    ];
-    for (text, wanted) in texts {
+    for (text, wanted) in FAULTS {
         assert_eq!(rt; told(&rt, rt.alloc(), text)?.as_str(), wanted, "{text}");
     }
     Ok(())
