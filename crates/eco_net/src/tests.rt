@@ -1,3 +1,5 @@
+mod pins;
+
 use crate::{CompId, CutKey, Kind, LoopFault, NetId, Netlist, NetlistMaker, PinRef};
 use eco_func::{MasterFn, Name, OutputFn, Table};
 use std::alloc::Global;
