@@ -16,6 +16,7 @@ pub mod Named
 pub mod Changed
 pub mod PinNames
 pub mod Effects
+pub mod Pointwise
 pub mod Numbers
 pub mod Whole
 pub mod AllPins

@@ -15,6 +15,8 @@ pub use Rattle.eco_net.proofs.Places.{push_cases, push_old, push_last, at_place}
 -- the nets of numbers after a net is added, and after one is marked as a tie net
 pub use Rattle.eco_net.proofs.Changed.{pushed_alike, tied_alike}
 pub use Rattle.eco_net.proofs.Added.{joint_length, tie_length}
+-- the pins of a gate by number
+pub use Rattle.eco_net.proofs.KindPins.{input_at, output_at}
 
 -- ---- a component that is added
 

@@ -1,5 +1,6 @@
 mod building;
 mod depths;
+mod pins;
 mod valued;
 
 use crate::tests::building::{Row, netlist_of};

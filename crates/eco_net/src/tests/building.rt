@@ -47,7 +47,7 @@ fn register(alloc: Global) -> Result<Kind, Fail>
 }
 
 /// INV, NAND, or REG for any other name.
-fn kind_of(alloc: Global, master: &str) -> Result<Kind, Fail>
+pub fn kind_of(alloc: Global, master: &str) -> Result<Kind, Fail>
     ensures { IfOk result HasOwnPins }
 {
     match master {
@@ -58,7 +58,7 @@ fn kind_of(alloc: Global, master: &str) -> Result<Kind, Fail>
 }
 
 /// The net of a name, which is added where it isn't there. VDD and VSS are supplies.
-fn net_of(alloc: Global, maker: &mut NetlistMaker, name: &str) -> Result<NetId, Fail> {
+pub fn net_of(alloc: Global, maker: &mut NetlistMaker, name: &str) -> Result<NetId, Fail> {
     let supply = match name {
         "VDD" => Some(true),
         "VSS" => Some(false),
@@ -76,7 +76,7 @@ fn net_of(alloc: Global, maker: &mut NetlistMaker, name: &str) -> Result<NetId, 
 }
 
 /// Adds a component, if its name is new.
-fn add_comp(alloc: Global, maker: &mut NetlistMaker, name: &str, kind: Kind) -> Result<CompId, Fail>
+pub fn add_comp(alloc: Global, maker: &mut NetlistMaker, name: &str, kind: Kind) -> Result<CompId, Fail>
     requires { HasOwnPins kind }
 {
     if maker.comp_count() < 1_100_000 {
@@ -88,7 +88,7 @@ fn add_comp(alloc: Global, maker: &mut NetlistMaker, name: &str, kind: Kind) -> 
 }
 
 /// Puts a pin on a net, if both are known.
-fn join(maker: &mut NetlistMaker, comp: CompId, pin: u32, net: NetId) -> Result<(), Fail> {
+pub fn join(maker: &mut NetlistMaker, comp: CompId, pin: u32, net: NetId) -> Result<(), Fail> {
     if comp.0 < maker.comp_count()
         && net.0 < maker.net_count()
         && (pin as usize) < maker.comp(comp.0).kind.pin_count()
