@@ -76,7 +76,12 @@ pub fn net_of(alloc: Global, maker: &mut NetlistMaker, name: &str) -> Result<Net
 }
 
 /// Adds a component, if its name is new.
-pub fn add_comp(alloc: Global, maker: &mut NetlistMaker, name: &str, kind: Kind) -> Result<CompId, Fail>
+pub fn add_comp(
+    alloc: Global,
+    maker: &mut NetlistMaker,
+    name: &str,
+    kind: Kind,
+) -> Result<CompId, Fail>
     requires { HasOwnPins kind }
 {
     if maker.comp_count() < 1_100_000 {
