@@ -43,7 +43,8 @@ fn register(alloc: Global) -> Result<Kind, Fail>
     let name = Name::of(alloc, b"Q")?;
     let dir = Dir::Output;
     pins.push(BoxPin { name, dir })?;
-    Ok(Kind::Boxed(BoxPins::of(pins)?))
+    let boxed = BoxPins::of(pins)?;
+    Ok(Kind::Boxed(boxed))
 }
 
 /// INV, NAND, or REG for any other name.

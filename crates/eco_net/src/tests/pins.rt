@@ -57,7 +57,8 @@ fn register(alloc: Global) -> Result<Kind, Fail>
     pins.push(box_pin(alloc, b"D", Dir::Input)?)?;
     pins.push(box_pin(alloc, b"Q", Dir::Output)?)?;
     pins.push(box_pin(alloc, b"IO", Dir::Inout)?)?;
-    Ok(Kind::Boxed(BoxPins::of(pins)?))
+    let boxed = BoxPins::of(pins)?;
+    Ok(Kind::Boxed(boxed))
 }
 
 /// Adds an inverter between two nets, if its name is new.

@@ -14,6 +14,6 @@ pub returns : goal.returns
 returns c =
     let d : BoxPin = record { name = c.in_ok-name.name; dir = Input } in
     let q : BoxPin = record { name = c.in_ok-name-2.name; dir = Output } in
-    let pins : c.of-3.result ≡ d ∷ q ∷ [] = c.of-3.ensures ∙ c.in_ok-push-2.ensures.items ∙ ap (λ ps. ps ++ q ∷ []) (c.in_ok-push.ensures.items ∙ ap (λ ps. ps ++ d ∷ []) c.new-pins.ensures.items) in
-    let names : map (λ (p : BoxPin). p.name) c.of-3.result ≡ (68 ∷ []) ∷ (81 ∷ []) ∷ [] = ap (map (λ (p : BoxPin). p.name)) pins ∙ ap₂ {C = List Name} (λ a b. a ∷ b ∷ []) c.in_ok-name.ensures c.in_ok-name-2.ensures in
+    let pins : c.in_ok-boxed.boxed ≡ d ∷ q ∷ [] = c.in_ok-boxed.ensures ∙ c.in_ok-push-2.ensures.items ∙ ap (λ ps. ps ++ q ∷ []) (c.in_ok-push.ensures.items ∙ ap (λ ps. ps ++ d ∷ []) c.new-pins.ensures.items) in
+    let names : map (λ (p : BoxPin). p.name) c.in_ok-boxed.boxed ≡ (68 ∷ []) ∷ (81 ∷ []) ∷ [] = ap (map (λ (p : BoxPin). p.name)) pins ∙ ap₂ {C = List Name} (λ a b. a ∷ b ∷ []) c.in_ok-name.ensures c.in_ok-name-2.ensures in
     (subst (IsDistinct (eq_by_cmp name_cmp)) (sym names) apart, omega (arith, ap length pins))
