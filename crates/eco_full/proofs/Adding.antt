@@ -1,11 +1,10 @@
 -- What one net, one component or one top pin adds to a netlist, and what many add.
-use Rattle.std.proofs.Common.{◌≡◌, ℕ, zero, suc, ◌+◌, ◌<◌, ◌≤◌, arith, Bool, true, false, cond, ◌||◌, List, [], ◌∷◌, ◌++◌, length, map, take, get_or, slice_get, Option, Some, None, refl, sym, ap, ◌∙◌, subst, inl, inr, ⊎_elim, append_assoc, replicate}
+use Rattle.std.proofs.Common.{◌≡◌, ℕ, zero, suc, ◌+◌, ◌<◌, arith, Bool, true, false, cond, ◌||◌, List, [], ◌∷◌, ◌++◌, length, map, take, get_or, slice_get, Option, Some, None, refl, sym, ap, ◌∙◌, subst, inl, inr, ⊎_elim, append_assoc, replicate}
 use Rattle.std.specs.List.{list_any}
 use Rattle.std.specs.Option.{option_map}
 use Rattle.std.specs.Str.{bytes_eq}
 use Rattle.std.specs.Cmp.Lexicographic.{nat_list_cmp_total}
-use Rattle.std.specs.FinMap.{FinMap, get, insert, empty, get-insert}
-use Rattle.std.proofs.lemmas.Bool.{cases_Bool}
+use Rattle.std.specs.FinMap.{get, insert, empty, get-insert}
 use Rattle.std.proofs.lemmas.Option.{slice_get-map}
 use Rattle.std.proofs.lemmas.List.{take_more, map_push, length_push, length-append, append-nil}
 use Rattle.std.proofs.lemmas.List.Folds.{list_any-append}
@@ -13,7 +12,7 @@ use Rattle.eco_text.specs.declared.geometry.Point.{Point}
 use Rattle.eco_def.specs.Named.{NamedComp}
 use Rattle.eco_net.specs.declared.kind.Kind.{Kind as Given}
 use Rattle.eco_net.specs.declared.rows.NetRow.{NetRow}
-use Rattle.eco_net.specs.Netlist.{Name, name_cmp, Component, Netlist, pins_of}
+use Rattle.eco_net.specs.Netlist.{Name, Component, Netlist, pins_of}
 use Rattle.eco_net.specs.Listing.{Listing, netlist, net_names, kind_of, AreApart}
 use Rattle.eco_net.specs.Kept.{IsListing}
 use Rattle.eco_net.proofs.Basics.{Has, contains_from_has, has_from_contains, has_of_map, has_append_left, has_append_right, get_same, get_other, same_Some, not_None}
@@ -168,7 +167,7 @@ module _ (kinds : Kinds) where
         }
 
 -- an item of the front stands at a place of it
-in_front : {A : Type 0} (xs : List A) (i : ℕ) (a : A) → Has (take i xs) a → (k : ℕ) × (k < i) × (slice_get xs k ≡ Some a)
+pub in_front : {A : Type 0} (xs : List A) (i : ℕ) (a : A) → Has (take i xs) a → (k : ℕ) × (k < i) × (slice_get xs k ≡ Some a)
 in_front [] zero a h = absurd h
 in_front [] (suc i) a h = absurd h
 in_front (x ∷ xs) zero a h = absurd h

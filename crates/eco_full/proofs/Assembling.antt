@@ -1,26 +1,26 @@
 -- A netlist that was listed stage by stage is that of the design.
 use mathlib.Core.Bool.{beq}
-use Rattle.std.proofs.Common.{◌≡◌, ◌≢◌, ◌↔◌, Bool, true, false, cond, not, ◌&&◌, ◌||◌, List, [], ◌∷◌, ◌++◌, map, Option, Some, None, is_some, refl, sym, ap, ◌∙◌, subst, inl, inr, ⊎_elim, ◌⊎◌, true≢false}
-use Rattle.std.specs.List.{Contains, list_any, list_all}
+use Rattle.std.proofs.Common.{◌≡◌, ◌≢◌, Bool, true, false, cond, ◌&&◌, List, [], ◌∷◌, ◌++◌, map, Option, Some, None, refl, sym, ap, ◌∙◌, subst, inl, inr, ⊎_elim, true≢false}
+use Rattle.std.specs.List.{list_any, list_all}
 use Rattle.std.specs.Option.{option_map}
 use Rattle.std.specs.Str.{bytes_eq}
-use Rattle.std.specs.FinMap.{get, empty, get-empty}
+use Rattle.std.specs.FinMap.{get, get-empty}
 use Rattle.std.specs.FinMap as fin
 use Rattle.std.specs.FinSet.{from_list}
 use Rattle.std.specs.FinSet as set
-use Rattle.std.proofs.lemmas.Bool.{cases_Bool, or_cases, or_left, or_right, true_from_ne_false, false_from_ne_true}
-use Rattle.eco_def.specs.Named.{NamedComp, NamedPin, NamedJoint, NamedNet, NamedDesign}
-use Rattle.eco_issued.specs.Changes.{NewJoint, is_no_component, stands, has_statement}
-use Rattle.eco_net.specs.Netlist.{Name, name_cmp, Kind, Component, Top, Netlist, CompPin, IsNet, IsPin, pins_of}
+use Rattle.std.proofs.lemmas.Bool.{or_cases, or_left, or_right, true_from_ne_false}
+use Rattle.eco_def.specs.Named.{NamedPin, NamedNet, NamedDesign}
+use Rattle.eco_issued.specs.Changes.{NewJoint, has_statement}
+use Rattle.eco_net.specs.Netlist.{Name, name_cmp, Kind, Component, Netlist, CompPin, IsNet, IsPin, pins_of}
 use Rattle.eco_net.specs.Drivers.{net_of, joined_at}
 use Rattle.eco_net.proofs.Basics.{Has, contains_from_has, has_from_contains, has_found, has_map, has_of_map, has_append_left, has_append_right, same_Some, not_None}
-use Rattle.eco_full.specs.Netlists.{Kinds, statements, has_net, supply_by, pin_names, top_of, netlist_of}
+use Rattle.eco_full.specs.Netlists.{Kinds, statements, has_net, supply_by, pin_names}
 use Rattle.eco_full.specs.Described.{IsOn, IsSupply, NamesOnce, IsConsistent, IsNetlistOf}
 use Rattle.eco_full.specs.Joints.{frame, IsRewired, OneNetEach}
 use Rattle.eco_full.specs.Stated.{supply_among, on_net, pins_on, all_pins_on}
 use Rattle.eco_full.specs.Building.{IsPinOf, IsListed, HasUnknownPin, HasPinOnTwo, HasTwoValues}
-use Rattle.eco_full.specs.Stages.{agree, keeps_value, NetsAre, IsOffNets, CompsAre, TopsAre}
-use Rattle.eco_full.proofs.Names.{same_name, is_name}
+use Rattle.eco_full.specs.Stages.{agree, keeps_value, NetsAre, CompsAre, TopsAre}
+use Rattle.eco_full.proofs.Names.{is_name}
 use Rattle.eco_full.proofs.Members.{has_of_append, any_has, has_any, all_has}
 use Rattle.eco_full.proofs.Found.{supply_found, supply_stands}
 use Rattle.eco_full.proofs.Joinable.{has_role}
@@ -119,8 +119,7 @@ module _ (kinds : Kinds) (d : NamedDesign) (ss : List NamedNet) (to : (z : Named
     pub unknown_pin : (j : NewJoint) → Has (all_pins_on ss) j → ((x : Component) → get M.comps j.comp ≡ Some x → IsPin x j.pin → ⊥) → HasUnknownPin kinds d
     unknown_pin j h none =
         let s = of_flat_map pins_on ss j h in
-        let i = of_pins s.0 j s.2 in
-        (
+        let i = of_pins s.0 j s.2 in (
           s.0,
           i.0,
           contains_from_has (statements d) s.0 (from s.0 s.1),
@@ -217,8 +216,7 @@ module _ (kinds : Kinds) (d : NamedDesign) (ss : List NamedNet) (to : (z : Named
               let z = was c x e in
               let one : y.0 ≡ z.0 = same_Some (sym y.1 ∙ ap (get M.comps) r.2 ∙ z.1) in
               let kind : y.0.kind ≡ x.kind = ap (λ w. w.kind) one ∙ ap (λ w. w.0) z.2 in
-              let net : r.0.net ≡ n = same_Some (sym (pin_put r.0 c p r.1 r.2 r.3) ∙ on) in
-              (
+              let net : r.0.net ≡ n = same_Some (sym (pin_put r.0 c p r.1 r.2 r.3) ∙ on) in (
                 (y.2.0, ap₃ kind r.3 ∙ y.2.1),
                 subst (λ m. IsOn d c p m) net (subst (λ q. IsOn d c q r.0.net) r.3 (subst (λ q. IsOn d q r.0.pin r.0.net) r.2 (on_pin r.0 r.1))),
               )

@@ -5,6 +5,7 @@ use Rattle.eco_text.specs.declared.word.Word.{Word}
 use Rattle.eco_def.specs.declared.design.Comp.{Comp}
 use Rattle.eco_def.specs.declared.design.Joint.{Joint}
 use Rattle.eco_def.specs.declared.design.TopPin.{TopPin}
+use Rattle.eco_full.specs.declared.joined_pin.JoinedPin.{JoinedPin}
 
 abbrev pub no_word : Word
 no_word = record { start = 0; end = 0; quoted = false }
@@ -17,3 +18,6 @@ no_joint = record { comp = no_word; pin = no_word; start = 0; end = 0 }
 
 abbrev pub no_pin : TopPin
 no_pin = record { name = no_word; net = no_word; dir = Input; supply = false }
+
+abbrev pub no_joined : JoinedPin
+no_joined = record { comp = record { 0 = 0 }; pin = 0; net = record { 0 = 0 } }

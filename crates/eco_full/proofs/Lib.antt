@@ -13,9 +13,14 @@ pub mod Keeping
 pub mod Joinable
 pub mod Fillers
 pub mod Adding
+pub mod AddingTops
 pub mod Valued
-pub mod Stating
-pub mod Assembling
 pub mod ReadOnce
+pub mod Limited
+pub mod Stating
+pub mod FindingPins
+pub mod JoiningPins
+pub mod Assembling
+pub mod Whole
 pub mod Unchanged
 mod Examples

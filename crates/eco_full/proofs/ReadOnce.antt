@@ -1,13 +1,18 @@
 -- In a design that was read each component and each top pin is named once.
-use Rattle.std.proofs.Common.{◌≡◌, ℕ, zero, suc, Bool, true, false, not, List, [], ◌∷◌, ◌++◌, map, Option, Some, None, Result, Ok, Err, refl, sym, ap, ◌∙◌, subst, inl, inr, ⊎_elim, ◌⊎◌, if◌then◌else◌, true≢false, codes}
+use Rattle.std.proofs.Common.{◌≡◌, ℕ, zero, suc, Bool, true, false, not, List, [], ◌∷◌, ◌++◌, map, slice_get, Option, Some, None, Result, Ok, Err, refl, sym, ap, ◌∙◌, subst, inl, inr, ⊎_elim, ◌⊎◌, if◌then◌else◌, true≢false, codes}
 use Rattle.std.specs.Str.{bytes_eq}
+use Rattle.std.specs.Option.{option_map}
+use Rattle.std.proofs.lemmas.Option.{slice_get-map}
+use Rattle.std.proofs.lemmas.List.{map_push}
 use Rattle.eco_text.specs.Words.{Token, Walk, finished, open_quote, word_then, walk_of}
 use Rattle.eco_def.specs.Design.{Comp, TopPin, Part, Passed, Units, Comps, Pins, Special, Nets, NetSection, Design}
 use Rattle.eco_def.specs.declared.fault.DefFault.TheVariants.{BadStatement, TwiceNamed, UnknownHeading}
 use Rattle.eco_def.specs.Parsing.{Parser, ◌>>=◌, then_read, give, refuse, begins, any, choose, word, name, is_word, is_name, is_among, new_name, valued, pass_to, pass_to_both, size, many_for, many, many_until, first_some}
 use Rattle.eco_def.specs.Grammar.{CompKind, Kind, NetKind, PinClause, PinKind, SpecialKind, comp, comp_new, comp_place, comp_section, comps, comps_of, design_from, design_of, design_read, dir_in, end_design, have, is_one_of, last_some, net_in, net_section, nets, nets_of, once, or_none, part, part_new, parts, parts_design, passed_section, passed_sections, passed_statements, pin_clauses, pin_on, pin_section, pins_of, section_end, section_head, special_section, supply_in, top_pin, top_pin_new, units, units_number, units_of}
 use Rattle.eco_def.specs.Named.{comp_names, pin_names}
-use Rattle.eco_net.proofs.Basics.{Has, has_from_contains, has_map, has_of_map, same_Some, not_None}
+use Rattle.eco_net.specs.Listing.{AreApart}
+use Rattle.eco_net.proofs.Places.{apart_nil, apart_push}
+use Rattle.eco_net.proofs.Basics.{Has, has_from_contains, has_of_map, same_Some, not_None}
 use Rattle.eco_full.specs.Laws.{ReadOnce}
 use Rattle.eco_full.proofs.Names.{is_name as names_same}
 use Rattle.eco_full.proofs.Members.{has_of_append, has_any}
@@ -68,20 +73,23 @@ gives_new known (word_then w u) x r e = go (is_name w) e
 
 -- ---- values one after another
 
--- values of one key are one
-abbrev OneEach : {A : Type 0} → (A → List ℕ) → List A → Type 0
-OneEach {A} key xs = (a b : A) → Has xs a → Has xs b → key a ≡ key b → a ≡ b
+-- no key stands twice
+abbrev pub OneEach : {A : Type 0} → (A → List ℕ) → List A → Type 0
+OneEach {A} key xs = AreApart (map key xs)
+
+has_placed : {A : Type 0} (xs : List A) (i : ℕ) (x : A) → slice_get xs i ≡ Some x → Has xs x
+has_placed [] i x e = absurd (not_None (sym e))
+has_placed (y ∷ ys) zero x e = inl (same_Some e)
+has_placed (y ∷ ys) (suc i) x e = inr (has_placed ys i x e)
+
+placed_has : {A : Type 0} (xs : List A) (x : A) → Has xs x → (i : ℕ) × (slice_get xs i ≡ Some x)
+placed_has [] x h = absurd h
+placed_has (y ∷ ys) x (inl e) = (0, ap Some e)
+placed_has (y ∷ ys) x (inr h) = let r = placed_has ys x h in (suc r.0, r.1)
 
 one_more : {A : Type 0} (key : A → List ℕ) (xs : List A) (x : A) → OneEach key xs → is_among (map key xs) (key x) ≡ false → OneEach key (xs ++ x ∷ [])
-one_more key xs x one new a b h i e = ⊎_elim
-    (λ p. ⊎_elim (λ q. one a b p q e) (λ q. ⊎_elim (λ s. absurd (other a p (e ∙ ap key (sym s)))) (λ z. absurd z) q) (has_of_append xs (x ∷ []) b i))
-    (λ p. ⊎_elim
-    (λ s. ⊎_elim (λ q. absurd (other b q (sym e ∙ ap key (sym s)))) (λ q. ⊎_elim (λ t. sym s ∙ t) (λ z. absurd z) q) (has_of_append xs (x ∷ []) b i))
-    (λ z. absurd z) p)
-    (has_of_append xs (x ∷ []) a h)
-  where
-    other : (y : _) → Has xs y → key y ≡ key x → ⊥
-    other y p s = true≢false (sym (has_any (λ n. bytes_eq n (key x)) (map key xs) (key y) (has_map key xs y p) (names_same (key y) (key x) s)) ∙ new)
+one_more key xs x one new = subst AreApart (sym (map_push key xs x)) (apart_push (map key xs) (key x) one (λ i e.
+    true≢false (sym (has_any (λ n. bytes_eq n (key x)) (map key xs) (key x) (has_placed (map key xs) i (key x) e) (names_same (key x) (key x) refl)) ∙ new)))
 
 gives_many : {A : Type 0} (key : A → List ℕ) (goes : Token → Bool) (item : List A → Parser A) → ((xs : List A) → Gives (λ x. is_among (map key xs) (key x) ≡ false) (item xs)) →
     (n : ℕ) (front : List A) → OneEach key front → Gives (OneEach key) (many_for n goes item front)
@@ -155,7 +163,7 @@ IsOnce (Special ss) = Unit {0}
 IsOnce (Nets s) = Unit {0}
 
 none_yet : {A : Type 0} (key : A → List ℕ) → OneEach key []
-none_yet key a b h i e = absurd h
+none_yet key = apart_nil
 
 gives_comps : Gives IsOnce comp_section
 unfolding comp_section
@@ -282,12 +290,26 @@ design_once text d e = elim (answer (parts (walk_of text))) [
   | inr o ↦ absurd (not_Err (sym (ap design_read o.1) ∙ e))
 ]
 
+-- no component is named twice, and no top pin is
+pub comps_apart : (text : List ℕ) (d : Design) → design_of text ≡ Ok d → AreApart (map (λ c. c.name.bytes) d.comps)
+comps_apart text d e = (design_once text d e).0
+
+pub pins_apart : (text : List ℕ) (d : Design) → design_of text ≡ Ok d → AreApart (map (λ p. p.name.bytes) d.pins)
+pins_apart text d e = (design_once text d e).1
+
 -- by names
 named_once : {A B : Type 0} (f : A → B) (key : A → List ℕ) (name : B → List ℕ) → ((x : A) → name (f x) ≡ key x) → (xs : List A) → OneEach key xs → (a b : B) → Has (map f xs) a → Has (map f xs) b → name a ≡ name b → a ≡ b
-named_once f key name is xs one a b h i e =
+named_once {A = A} f key name is xs one a b h i e =
     let x = has_of_map f xs a h in
     let y = has_of_map f xs b i in
-    sym x.2 ∙ ap f (one x.0 y.0 x.1 y.1 (sym (is x.0) ∙ ap name x.2 ∙ e ∙ ap name (sym y.2) ∙ is y.0)) ∙ y.2
+    let k = placed_has xs x.0 x.1 in
+    let l = placed_has xs y.0 y.1 in
+    let same_key : key x.0 ≡ key y.0 = sym (is x.0) ∙ ap name x.2 ∙ e ∙ ap name (sym y.2) ∙ is y.0 in
+    let same : k.0 ≡ l.0 = one k.0 l.0 (key y.0) (keyed k.0 x.0 k.1 ∙ ap Some same_key) (keyed l.0 y.0 l.1) in
+    sym x.2 ∙ ap f (same_Some (sym k.1 ∙ ap (slice_get xs) same ∙ l.1)) ∙ y.2
+  where
+    keyed : (i : ℕ) (x : A) → slice_get xs i ≡ Some x → slice_get (map key xs) i ≡ Some (key x)
+    keyed i x e = slice_get-map key xs i ∙ ap (option_map key) e
 
 pub read_once : ReadOnce
 read_once text d e =

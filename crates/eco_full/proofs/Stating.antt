@@ -1,5 +1,5 @@
 -- The statements of a design in the order of its text, and the pins that they put on nets.
-use Rattle.std.proofs.Common.{◌≡◌, ◌↔◌, ℕ, Bool, true, false, not, ◌&&◌, List, [], ◌∷◌, ◌++◌, map, refl, sym, ap, ◌∙◌, subst, inl, inr, ⊎_elim, ◌⊎◌, filter}
+use Rattle.std.proofs.Common.{◌≡◌, ℕ, Bool, true, false, not, ◌&&◌, List, [], ◌∷◌, map, refl, sym, ap, ◌∙◌, subst, inl, inr, ⊎_elim, filter}
 use Rattle.std.specs.List.{list_any, flat_map}
 use Rattle.std.specs.Str.{bytes_eq}
 use Rattle.std.proofs.lemmas.Bool.{cases_Bool, and_parts, and_from}
@@ -8,7 +8,7 @@ use Rattle.eco_def.specs.declared.design.Design.{Design}
 use Rattle.eco_def.specs.Named.{NamedJoint, NamedNet, net_names, names_of}
 use Rattle.eco_def.specs.View.{net_in, design_in}
 use Rattle.eco_issued.specs.Changes.{NewJoint, is_no_component, is_of, stands}
-use Rattle.eco_net.proofs.Basics.{Has, contains_from_has, has_from_contains, has_map, has_of_map, has_append_left, has_append_right}
+use Rattle.eco_net.proofs.Basics.{Has, has_map, has_of_map, has_append_left, has_append_right}
 use Rattle.eco_full.specs.Netlists.{statements}
 use Rattle.eco_full.specs.Stated.{named_net, named_nets, on_net, pins_on, all_pins_on}
 use Rattle.eco_full.proofs.Names.{same_name, is_name}

@@ -1,5 +1,5 @@
 -- What is listed of a design, and why a design has no netlist.
-use Rattle.std.specs.Prelude.{◌≡◌, ◌≢◌, Bool, true, false, List, [], None, Some, Result, Ok, Err}
+use Rattle.std.specs.Prelude.{◌≡◌, ◌≢◌, true, false, [], None, Some, Result, Ok, Err}
 use Rattle.std.specs.List.{Contains}
 use Rattle.eco_def.specs.Named.{NamedComp, NamedJoint, NamedNet, NamedDesign}
 use Rattle.eco_issued.specs.Changes.{is_no_component}

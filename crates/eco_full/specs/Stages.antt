@@ -1,25 +1,32 @@
 -- What each stage of listing a design adds to the netlist.
 use mathlib.Core.Bool.{beq}
-use Rattle.std.specs.Prelude.{◌≡◌, ℕ, ◌+◌, ◌<◌, ◌≤◌, Bool, true, false, cond, ◌↔◌, List, [], ◌∷◌, ◌++◌, length, map, Option, Some, None, slice_get}
-use Rattle.std.specs.List.{Contains, list_any, All}
+use Rattle.std.specs.Prelude.{◌≡◌, ◌≢◌, ◌⊎◌, ℕ, ◌+◌, ◌<◌, ◌≤◌, Bool, true, false, cond, ◌↔◌, List, [], ◌∷◌, ◌++◌, length, map, Option, Some, None, slice_get}
+use Rattle.std.specs.List.{Contains, list_any}
 use Rattle.std.specs.Option.{option_map, unwrap_or}
 use Rattle.std.specs.Str.{bytes_eq}
 use Rattle.std.specs.Borrow.{Bor}
 use Rattle.std.specs.FinMap.{get, empty}
+use Rattle.std.specs.FinSet as set
 use Rattle.std.specs.HashMap.{HashMap, get_by}
 use Rattle.std.specs.declared.hash.FoldHasher.{FoldHasher}
 use Rattle.std.specs.declared.hash.BuildHasherDefault.{BuildHasherDefault}
+use Rattle.eco_def.specs.declared.design.Design.{Design}
 use Rattle.eco_def.specs.Named.{NamedComp, NamedPin, NamedNet}
 use Rattle.eco_issued.specs.Changes.{NewJoint}
+use Rattle.eco_net.specs.declared.kind.Kind.{Kind as Given}
 use Rattle.eco_net.specs.declared.rows.CompRow.{CompRow}
+use Rattle.eco_net.specs.declared.ids.CompId.{CompId}
 use Rattle.eco_net.specs.declared.ids.PinRef.TheVariants.{Pin}
-use Rattle.eco_net.specs.Netlist.{Name, Kind, Component, Top, Netlist}
+use Rattle.eco_net.specs.Netlist.{Name, Component, Top, Netlist, CompPin, IsPin}
+use Rattle.eco_net.specs.Changes.{empty_netlist}
+use Rattle.eco_net.specs.Drivers.{net_of}
 use Rattle.eco_net.specs.Listing.{Listing, netlist, net_name, pins, IsKnownPin}
 use Rattle.eco_full.specs.declared.fault.DesignFault.{DesignFault}
 use Rattle.eco_full.specs.declared.fault.DesignFault.TheVariants.{UnknownMacro, UnknownPin, PinNetDiffers, SupplyDiffers, Memory}
 use Rattle.eco_full.specs.declared.joined_pin.JoinedPin.{JoinedPin}
 use Rattle.eco_full.specs.Netlists.{Kinds, supply_by, top_of}
-use Rattle.eco_full.specs.Stated.{supply_among}
+use Rattle.eco_full.specs.Joints.{IsRewired, OneNetEach}
+use Rattle.eco_full.specs.Stated.{named_net, named_pin, named_comps, named_pins}
 
 -- ---- supplies
 
@@ -110,3 +117,82 @@ joints_of L ps = map (joint_of L) ps
 -- pin and net are those of a listing
 abbrev pub IsKnownJoint : Listing → JoinedPin → Type 0
 IsKnownJoint L p = IsKnownPin L (Pin p.comp p.pin) × (p.net.0 < length L.nets)
+
+-- the pin of these names: its component and its number
+abbrev pub FindsPinOf : Listing → Name → Name → Option (CompId × ℕ) → Type 0
+FindsPinOf L comp pin None = (x : Component) → get (netlist L).comps comp ≡ Some x → IsPin x pin → ⊥
+FindsPinOf L comp pin (Some f) = IsKnownPin L (Pin f.0 f.1) × (comp_name (slice_get L.comps f.0.0) ≡ comp) × (pin_name (slice_get L.comps f.0.0) f.1 ≡ pin)
+
+-- pins are found, by these names
+pub record FindsPins (L : Listing) (js : List NewJoint) (old new : List JoinedPin) : Type 0 where
+  pub joints : joints_of L new ≡ joints_of L old ++ js
+  pub known : ((p : JoinedPin) → Contains old p → IsKnownJoint L p) → (p : JoinedPin) → Contains new p → IsKnownJoint L p
+
+-- a joint names no pin of a component, or memory ran out
+abbrev pub PinFault : Netlist → List NewJoint → DesignFault → Type 0
+PinFault N js UnknownMacro = ⊥
+PinFault N js UnknownPin = (j : NewJoint) × Contains js j × ((x : Component) → get N.comps j.comp ≡ Some x → IsPin x j.pin → ⊥)
+PinFault N js PinNetDiffers = ⊥
+PinFault N js SupplyDiffers = ⊥
+PinFault N js Memory = Unit {0}
+
+abbrev pub name_and_kind : CompRow → Name × Given
+name_and_kind r = (r.name, r.kind)
+
+-- each number stands for the same name, and for a component of the same kind
+pub record SameNumbers (L M : Listing) : Type 0 where
+  pub nets : M.nets ≡ L.nets
+  pub comps : (c : ℕ) → option_map name_and_kind (slice_get M.comps c) ≡ option_map name_and_kind (slice_get L.comps c)
+
+-- the net that the pin was on
+abbrev pub net_before : Listing → JoinedPin → Option Name
+net_before L p = net_of (netlist L) (CompPin (joint_of L p).comp (joint_of L p).pin)
+
+-- the pin is put on its net; before, it was on none or on that one
+pub record JoinsPin (L : Listing) (p : JoinedPin) (M : Listing) : Type 0 where
+  pub wired : IsRewired (netlist L) (joint_of L p ∷ []) [] (netlist M)
+  pub before : (net_before L p ≡ None) ⊎ (net_before L p ≡ Some (joint_of L p).net)
+  pub same : SameNumbers L M
+
+-- the pins are put on their nets, none of them on two
+pub record JoinsPins (L : Listing) (ps : List JoinedPin) (M : Listing) : Type 0 where
+  pub wired : IsRewired (netlist L) (joints_of L ps) [] (netlist M)
+  pub one : OneNetEach (joints_of L ps)
+  pub same : SameNumbers L M
+
+-- the pin is on another net
+abbrev pub OneFault : Listing → JoinedPin → DesignFault → Type 0
+OneFault L p UnknownMacro = ⊥
+OneFault L p UnknownPin = ⊥
+OneFault L p PinNetDiffers = (n : Name) × (net_before L p ≡ Some n) × (n ≢ (joint_of L p).net)
+OneFault L p SupplyDiffers = ⊥
+OneFault L p Memory = Unit {0}
+
+-- a pin is put on two nets, or memory ran out
+abbrev pub JoinFault : List NewJoint → DesignFault → Type 0
+JoinFault js UnknownMacro = ⊥
+JoinFault js UnknownPin = ⊥
+JoinFault js PinNetDiffers = (j : NewJoint) × (k : NewJoint) × Contains js j × Contains js k × (j.comp ≡ k.comp) × (j.pin ≡ k.pin) × (j.net ≢ k.net)
+JoinFault js SupplyDiffers = ⊥
+JoinFault js Memory = Unit {0}
+
+-- ---- a whole design
+
+-- the names of the nets, of statements in the order of the text and of the design's own pins
+abbrev pub net_names : List ℕ → Design → List Name
+net_names text d = map (λ s. (named_net text s).name) d.nets ++ map (λ p. (named_pin text p).net) d.pins
+
+-- the nets are listed, and nothing else
+pub record NetsListed (value : Name → Option Bool) (text : List ℕ) (d : Design) (L : Listing) : Type 0 where
+  pub nets : NetsAre value (net_names text d) (netlist L)
+  pub others : netlist L ≡ record empty_netlist { nets = (netlist L).nets }
+  pub no_comps : L.comps ≡ []
+  pub no_tops : L.tops ≡ []
+
+-- all is listed, with the components' pins on no net
+pub record PartsListed (kinds : Kinds) (value : Name → Option Bool) (text : List ℕ) (d : Design) (L : Listing) : Type 0 where
+  pub nets : NetsAre value (net_names text d) (netlist L)
+  pub comps : CompsAre kinds (named_comps text d.comps) (netlist L)
+  pub tops : TopsAre (named_pins text d.pins) (netlist L)
+  pub ties : (netlist L).ties ≡ set.empty
+  pub reserved : (netlist L).reserved ≡ set.empty

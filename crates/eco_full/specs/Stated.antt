@@ -49,9 +49,13 @@ supply_among ss n = first_some (map (λ s. supply_by s.usage) (filter (λ s. byt
 abbrev pub on_net : Name → NamedJoint → NewJoint
 on_net n j = record { comp = j.comp; pin = j.pin; net = n }
 
--- the pins of components that a statement puts on its net, PIN and * aside
+-- the pins of components that joints put on a net, PIN and * aside
+abbrev pub pins_among : Name → List NamedJoint → List NewJoint
+pins_among n js = map (on_net n) (filter (λ j. not (is_no_component j.comp)) js)
+
+-- the pins of components that a statement puts on its net
 abbrev pub pins_on : NamedNet → List NewJoint
-pins_on s = map (on_net s.name) (filter (λ j. not (is_no_component j.comp)) s.joints)
+pins_on s = pins_among s.name s.joints
 
 abbrev pub all_pins_on : List NamedNet → List NewJoint
 all_pins_on ss = flat_map pins_on ss

@@ -38,7 +38,7 @@ fn add_comp<M: Macros>(
     let _listing = maker.counts();
     let model = bytes_at(text, comp.model);
     let name = bytes_at(text, comp.name);
-    match macros.kind(alloc, model)? {
+    match macros.kind(model)? {
         None => Err(DesignFault::UnknownMacro),
         Some(kind) => {
             maker.add_comp(alloc, name, kind, point_of(comp))?;

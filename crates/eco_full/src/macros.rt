@@ -9,15 +9,15 @@ ghost use Rattle.eco_full.specs.Netlists.{Kinds};
 
 use eco_func::{Functions, Memory};
 use eco_net::Kind;
-use std::alloc::Global;
 
 /// A table of macros: what a component is, by the name of its model.
 pub trait Macros {
     /// What each name stands for.
     ghost kinds: { Self → Kinds };
 
-    /// What a name stands for, or none where it names no macro. A box's pins have names of their own.
-    fn kind(&self, alloc: Global, name: &[u8]) -> Result<Option<Kind>, Memory>
+    /// What a name stands for, or none where it names no macro. A box's pins have names of their own. No memory is taken:
+    /// `Memory` comes only where there are too many copies to be counted.
+    fn kind(&self, name: &[u8]) -> Result<Option<Kind>, Memory>
         ensures known { IfOk result (λ o. option_map kind_of o ≡ kinds self.now name.now) }
         ensures own_pins { IfOk result (λ o. IfSome o HasOwnPins) };
 }
@@ -26,7 +26,7 @@ pub trait Macros {
 impl Macros for Functions {
     ghost kinds = { λ functions name. option_map (λ m. kind_of (Gate m)) (find_master name functions) };
 
-    fn kind(&self, _: Global, name: &[u8]) -> Result<Option<Kind>, Memory> {
+    fn kind(&self, name: &[u8]) -> Result<Option<Kind>, Memory> {
         match self.find(name) {
             Some(master) => Ok(Some(Kind::Gate(master.copy()?))),
             None => Ok(None),

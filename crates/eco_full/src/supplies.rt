@@ -35,7 +35,11 @@ pub fn supply_of(supplies: &Supplies<'_>, name: &[u8]) -> Option<bool>
 }
 
 /// Gives a net its value, unless it has one.
-fn add_supply<'a>(supplies: &mut Supplies<'a>, name: &'a [u8], value: bool) -> Result<(), AllocError>
+fn add_supply<'a>(
+    supplies: &mut Supplies<'a>,
+    name: &'a [u8],
+    value: bool,
+) -> Result<(), AllocError>
     ensures { OnOk result ((n : List ℕ) → value_of supplies.new n ≡ option_or (value_of supplies.old n) (if bytes_eq name.now n then Some value else None)) }
 {
     if !supplies.contains_key(&name) {
@@ -45,7 +49,11 @@ fn add_supply<'a>(supplies: &mut Supplies<'a>, name: &'a [u8], value: bool) -> R
 }
 
 /// Gives a statement's net the value by the statement, unless it has one.
-fn add_stated<'a>(supplies: &mut Supplies<'a>, text: &'a [u8], net: &NetStatement) -> Result<(), AllocError>
+fn add_stated<'a>(
+    supplies: &mut Supplies<'a>,
+    text: &'a [u8],
+    net: &NetStatement,
+) -> Result<(), AllocError>
     ensures { OnOk result ((n : List ℕ) → value_of supplies.new n ≡ option_or (value_of supplies.old n) (supply_among (named_net text.now net.now ∷ []) n)) }
 {
     match supply_by(text, net) {

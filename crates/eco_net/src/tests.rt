@@ -1,104 +1,45 @@
-use crate::{CompId, CutKey, Kind, NetId, Netlist, NetlistMaker, PinRef};
-use eco_func::{MasterFn, Name, OutputFn, Table};
-use std::alloc::Global;
+mod building;
+mod depths;
+mod valued;
+
+use crate::tests::building::{Row, netlist_of};
+use crate::{CompId, CutKey, NetId, PinRef};
 use std::test::Fail;
 
-/// An inverter with the input A and the output Y.
-fn inverter(alloc: Global) -> Result<MasterFn, Fail> {
-    let mut inputs = Vec::new(alloc);
-    inputs.push(Name::of(alloc, b"A")?)?;
-    let mut outputs = Vec::new(alloc);
-    let table = Table::new(1, 1).ok_or("no table")?;
-    let pin = Name::of(alloc, b"Y")?;
-    outputs.push(OutputFn { pin, table })?;
-    let name = Name::of(alloc, b"INV")?;
-    Ok(MasterFn::new(alloc, name, inputs, outputs)?.ok_or("no master")?)
-}
-
-/// Adds a net, if its name is new.
-fn add_net(alloc: Global, maker: &mut NetlistMaker, name: &[u8]) -> Result<NetId, Fail> {
-    if maker.net_count() < 9_000_000 {
-        if let None = maker.net_number(name) {
-            return Ok(maker.add_net(alloc, name, None)?);
-        }
-    }
-    let none: Option<NetId> = None;
-    Ok(none.ok_or("a name that is taken")?)
-}
-
-/// Adds an inverter between two nets, if its name is new.
-fn add_inverter(
-    alloc: Global,
-    maker: &mut NetlistMaker,
-    name: &[u8],
-    from: NetId,
-    to: NetId,
-) -> Result<CompId, Fail> {
-    let kind = Kind::Gate(inverter(alloc)?);
-    if maker.comp_count() < 1_100_000 {
-        if let None = maker.comp_number(name) {
-            let comp = maker.add_comp(alloc, name, kind, None)?;
-            join(maker, comp, 0, from)?;
-            join(maker, comp, 1, to)?;
-            return Ok(comp);
-        }
-    }
-    let none: Option<CompId> = None;
-    Ok(none.ok_or("a name that is taken")?)
-}
-
-/// Puts a pin on a net, if both are known.
-fn join(maker: &mut NetlistMaker, comp: CompId, pin: u32, net: NetId) -> Result<(), Fail> {
-    if comp.0 < maker.comp_count()
-        && net.0 < maker.net_count()
-        && (pin as usize) < maker.comp(comp.0).kind.pin_count()
-    {
-        maker.join(comp, pin, net)?;
-    }
-    Ok(())
-}
-
 /// Two inverters in a row, from a through n1 to n2.
-fn row(alloc: Global) -> Result<Netlist, Fail> {
-    let mut maker = NetlistMaker::new(alloc)?;
-    let a = add_net(alloc, &mut maker, b"a")?;
-    let n1 = add_net(alloc, &mut maker, b"n1")?;
-    let n2 = add_net(alloc, &mut maker, b"n2")?;
-    add_inverter(alloc, &mut maker, b"u2", n1, n2)?;
-    add_inverter(alloc, &mut maker, b"u1", a, n1)?;
-    maker.reserve_name(alloc, b"SP_1")?;
-    Ok(maker.finish(alloc)?)
-}
+const IN_A_ROW: [Row; 2] = [
+    Row("u2", "INV", ["n1", "n2", ""]),
+    Row("u1", "INV", ["a", "n1", ""]),
+];
+
+/// Two inverters in a ring.
+const IN_A_RING: [Row; 2] = [
+    Row("u1", "INV", ["x", "y", ""]),
+    Row("u2", "INV", ["y", "x", ""]),
+];
 
 #[test]
 fn two_inverters_in_a_row(rt: HostRuntime) -> Result<(), Fail> {
     let alloc = rt.alloc();
-    let netlist = row(alloc)?;
-    assert_eq!(rt; netlist.find_net(b"n1"), Some(NetId(1)));
+    let netlist = netlist_of(alloc, &IN_A_ROW)?;
+    assert_eq!(rt; netlist.find_net(b"n1"), Some(NetId(0)));
     assert_eq!(rt; netlist.find_net(b"n3"), None);
     assert_eq!(rt; netlist.find_comp(b"u1"), Some(CompId(1)));
     assert!(rt; netlist.is_reserved(b"SP_1") && !netlist.is_reserved(b"u1"));
     assert_eq!(rt; netlist.counts().nets, 3);
-    assert_eq!(rt; netlist.driver(NetId(1)), Some(PinRef::Pin(CompId(1), 1)));
-    assert_eq!(rt; netlist.driver(NetId(0)), None);
+    assert_eq!(rt; netlist.driver(NetId(0)), Some(PinRef::Pin(CompId(1), 1)));
+    assert_eq!(rt; netlist.driver(NetId(2)), None);
     let keys = netlist.cut_keys(alloc)?;
-    assert_eq!(rt; keys.as_slice(), [CutKey::Net(NetId(0))].as_slice());
-    match netlist.levels(alloc) {
-        Ok(levels) => assert_eq!(rt; levels.order.as_slice(), [1, 2].as_slice()),
-        Err(_) => assert!(rt; false),
-    }
+    assert_eq!(rt; keys.as_slice(), [CutKey::Net(NetId(2))].as_slice());
+    let levels = netlist.levels(alloc)?;
+    assert_eq!(rt; levels.order.as_slice(), [0, 1].as_slice());
     Ok(())
 }
 
 #[test]
 fn two_inverters_in_a_ring(rt: HostRuntime) -> Result<(), Fail> {
     let alloc = rt.alloc();
-    let mut maker = NetlistMaker::new(alloc)?;
-    let y = add_net(alloc, &mut maker, b"y")?;
-    let x = add_net(alloc, &mut maker, b"x")?;
-    add_inverter(alloc, &mut maker, b"u1", x, y)?;
-    add_inverter(alloc, &mut maker, b"u2", y, x)?;
-    let netlist = maker.finish(alloc)?;
+    let netlist = netlist_of(alloc, &IN_A_RING)?;
     match netlist.levels(alloc) {
         Ok(_) => assert!(rt; false),
         Err(fault) => {

@@ -16,6 +16,6 @@ loop-pin-preserved c =
     subst (λ (n : Name). AddsNets value (n ∷ []) c.loop-pin.maker c.add_net.new.maker) c.bytes_at-name.ensures (c.in_ok-add_net.ensures value (sym c.supply_of.ensures)) in
     record {
       adds = subst (λ (ns : List Name). AddsNets value ns c.args.maker.now c.add_net.new.maker) (sym (mapped_at name c.args.pins.now c.loop-pin.pin-index no_pin c.loop-pin-test.true))
-      (nets_added value _ _ _ _ _ c.loop-pin.invariant.adds step);
+          (nets_added value _ _ _ _ _ c.loop-pin.invariant.adds step);
       few = let f = step.few in omega (arith, f, c.loop-pin.invariant.few);
     }

@@ -14,6 +14,6 @@ loop-net-preserved c =
     subst (λ (n : Name). AddsNets value (n ∷ []) c.loop-net.maker c.add_net.new.maker) c.bytes_at-name.ensures (c.in_ok-add_net.ensures value (sym c.supply_of.ensures)) in
     record {
       adds = subst (λ (ns : List Name). AddsNets value ns c.args.maker.now c.add_net.new.maker) (sym (mapped_more name c.args.nets.now c.loop-net.net-index c.net-item.result c.loop-net-test.true c.net-item.is))
-      (nets_added value _ _ _ _ _ c.loop-net.invariant.adds step);
+          (nets_added value _ _ _ _ _ c.loop-net.invariant.adds step);
       few = let f = step.few in omega (arith, f, c.loop-net.invariant.few);
     }
