@@ -1,5 +1,5 @@
 -- What shows that a design is one of gates, and what shows that it is none.
-use Rattle.std.proofs.Common.{◌≡◌, ℕ, Bool, true, false, List, [], ◌∷◌, ◌++◌, Some, Result, Ok, Err, refl, sym, ap, ◌∙◌, subst, ⊎_elim, true≢false}
+use Rattle.std.proofs.Common.{◌≡◌, ℕ, Bool, true, false, List, [], ◌∷◌, Some, Ok, Err, refl, sym, ap, ◌∙◌, subst, ⊎_elim, true≢false}
 use Rattle.std.specs.List.{Contains, All}
 use Rattle.std.specs.Cmp.Lexicographic.{nat_list_cmp_total}
 use Rattle.std.specs.FinMap.{slice_cmp-IsAntisymmetric, nat_cmp-IsAntisymmetric}
@@ -15,12 +15,12 @@ use Rattle.eco_func.specs.FunctionsFile.{Reads}
 use Rattle.eco_func.specs.Masters.{MasterTables, is_master}
 use Rattle.eco_net.specs.Netlist.{Name, name_cmp, Netlist, IsNet}
 use Rattle.eco_net.specs.Changes.{with_tie_net}
-use Rattle.eco_net.specs.Listing.{Listing, netlist}
+use Rattle.eco_net.specs.Listing.{Listing}
 use Rattle.eco_net.specs.Walks.{IsLoopFree}
 use Rattle.eco_net.proofs.Basics.{Has, contains_from_has, has_from_contains, has_append_right, same_Some, not_None}
 use Rattle.eco_full.specs.declared.fault.DesignFault.{DesignFault}
 use Rattle.eco_full.specs.declared.fault.DesignFault.TheVariants.{UnknownMacro, UnknownPin, PinNetDiffers, SupplyDiffers, Memory as NoRoom}
-use Rattle.eco_full.specs.Netlists.{Kinds, statements, supply_by, netlist_of}
+use Rattle.eco_full.specs.Netlists.{statements, supply_by, netlist_of}
 use Rattle.eco_full.specs.Described.{IsSupply}
 use Rattle.eco_full.specs.Building.{IsFault, IsListed}
 use Rattle.eco_full.proofs.Members.{has_of_append}
@@ -30,7 +30,7 @@ use Rattle.eco_base.specs.declared.gate_fault.GateFault.TheVariants.{Def, Func, 
 use Rattle.eco_base.specs.Gates.{gate_kinds, netlist_of_gates, IsGateDesign}
 use Rattle.eco_base.specs.GateBases.{IsGateBase}
 use Rattle.eco_base.specs.TiedDesigns.{IsTied}
-use Rattle.eco_base.specs.OpenedGates.{IsJoined, Decides, ListsGates, ListsDesign, Opens}
+use Rattle.eco_base.specs.OpenedGates.{IsJoined, Decides, ListsDesign, Opens}
 use Rattle.eco_base.proofs.NetsOnce.{nets_once}
 
 -- ---- a design without SPECIALNETS has the statements of NETS alone

@@ -11,9 +11,8 @@ use Rattle.eco_func.specs.declared.fault.FuncFault.{FuncFault}
 use Rattle.eco_func.specs.declared.fault.FuncFault.TheVariants.{Memory as NoRoomForFunctions}
 use Rattle.eco_func.specs.FunctionsFile.{Reads}
 use Rattle.eco_func.specs.Masters.{MasterTables}
-use Rattle.eco_net.specs.Netlist.{Name, Kind, Netlist}
+use Rattle.eco_net.specs.Netlist.{Name, Kind}
 use Rattle.eco_net.specs.Listing.{Listing, netlist}
-use Rattle.eco_net.specs.Walks.{IsLoopFree}
 use Rattle.eco_full.specs.Described.{IsOn}
 use Rattle.eco_base.specs.declared.gate_fault.GateFault.{GateFault}
 use Rattle.eco_base.specs.declared.gate_fault.GateFault.TheVariants.{Def, Func, NotYet, Memory}

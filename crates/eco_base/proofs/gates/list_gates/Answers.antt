@@ -1,4 +1,4 @@
-use Rattle.std.proofs.Common.{◌≡◌, ◌∙◌, ap, sym, subst, rules}
+use Rattle.std.proofs.Common.{◌≡◌, ◌∙◌, ap, rules}
 use Rattle.eco_def.specs.Named.{names_of}
 use Rattle.eco_def.specs.View.{design_in}
 use Rattle.eco_full.specs.declared.fault.DesignFault.TheVariants.{Memory}
