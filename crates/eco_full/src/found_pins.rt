@@ -16,7 +16,7 @@ use eco_net::{CompId, NetId, NetlistMaker};
 use std::alloc::Global;
 
 /// The pin of a name of the component of a name.
-fn find_pin(maker: &NetlistMaker, comp: &[u8], pin: &[u8]) -> Option<(CompId, u32)>
+pub fn find_pin(maker: &NetlistMaker, comp: &[u8], pin: &[u8]) -> Option<(CompId, u32)>
     ensures { FindsPinOf maker.now comp.now pin.now result }
 {
     let _listing = maker.counts();

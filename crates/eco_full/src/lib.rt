@@ -19,5 +19,8 @@ pub use crate::laws::{
     apart_is, can_join_is, components_stay, issued_is, netlist_is, netlist_whole, none_unnamed,
     nothing_moves, read_once, rewired_is, still_consistent, still_whole,
 };
-pub use crate::listing::list_netlist;
+pub use crate::listing::list_design;
 pub use crate::macros::Macros;
+
+#[cfg(test)]
+mod tests;

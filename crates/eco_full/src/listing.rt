@@ -59,7 +59,7 @@ fn list_parts<M: Macros>(
 /// The design is the reading of the text. Its nets are numbered by the order of their first statements, and behind them
 /// come those that only its own pins name. `UnknownMacro`, `UnknownPin`, `PinNetDiffers` and `SupplyDiffers` come in this
 /// order.
-pub fn list_netlist<M: Macros>(
+pub fn list_design<M: Macros>(
     alloc: Global,
     text: &[u8],
     design: &Design,

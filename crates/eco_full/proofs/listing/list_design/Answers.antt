@@ -10,7 +10,7 @@ use Rattle.eco_full.specs.declared.joined_pin.JoinedPin.{JoinedPin}
 use Rattle.eco_full.specs.Stated.{named_comps, named_net, named_nets, supply_among, all_pins_on}
 use Rattle.eco_full.specs.Stages.{value_of, keeps_value, joint_of, joints_of, FindsPins, PinFault, JoinFault, JoinsPins}
 use Rattle.eco_full.proofs.Whole.{statement_net, off_all, pin_fault, join_fault, supply_fault, whole}
-use Rattle.eco_full.proofs.listing.list_netlist.Goals as goal
+use Rattle.eco_full.proofs.listing.list_design.Goals as goal
 
 pub find_pins-requires : goal.find_pins-requires
 find_pins-requires g c s h =
