@@ -16,7 +16,7 @@ use crate::gate_base::GateBase;
 use crate::gate_fault::GateFault;
 use crate::tied_design::is_tied;
 use eco_def::{DefFault, Design, read_def};
-use eco_full::{DesignFault, list_netlist};
+use eco_full::{DesignFault, list_design};
 use eco_func::{FuncFault, Functions, Name, read_functions};
 use eco_net::{LoopFault, Netlist, NetlistMaker};
 use std::alloc::Global;
@@ -44,7 +44,7 @@ fn list_gates(
     requires tied { IsTied low.now high.now (names_of (design_in text.now design.now)) }
     ensures { Decides (ListsGates functions.now low.now high.now (names_of (design_in text.now design.now))) (IsJoined functions.now (names_of (design_in text.now design.now))) result }
 {
-    let mut maker = match list_netlist(alloc, text, design, functions) {
+    let mut maker = match list_design(alloc, text, design, functions) {
         Ok(maker) => maker,
         Err(DesignFault::Memory) => return Err(GateFault::Memory),
         Err(_) => return Err(GateFault::NotYet),
