@@ -1,4 +1,4 @@
-use Rattle.std.proofs.Common.{◌≡◌, ◌∙◌, [], ◌∷◌, ◌++◌, length, replicate, Some, None, sym, ap, inl, refl}
+use Rattle.std.proofs.Common.{◌≡◌, ◌∙◌, [], ◌∷◌, ◌++◌, length, replicate, Some, None, sym, ap, subst, inl, refl}
 use Rattle.std.specs.Option.{option_map}
 use Rattle.eco_def.specs.Named.{NamedComp}
 use Rattle.eco_net.specs.Netlist.{Name, pins_of}
@@ -21,5 +21,5 @@ returns-in_ok-add_comp-in-Some-clause-ok g c =
     let known : g.M.Macros.kinds c.args.macros.now a.model ≡ Some (kind_of kind) =
     ap (g.M.Macros.kinds c.args.macros.now) (sym c.bytes_at-model.ensures) ∙ sym c.in_ok-kind.ensures.known ∙ ap (option_map kind_of) c.in-Some.is in
     new_comp (g.M.Macros.kinds c.args.macros.now) L a kind known c.requires.new_name c.counts-listing.ensures.listing c.point_of.result c.point_of.ensures c.add_comp.new.self
-    (c.in_ok-add_comp-in-Some.ensures.ok
-    ∙ ap (λ (n : Name). record L { comps = L.comps ++ record { name = n; kind = kind; place = c.point_of.result; joined = replicate (length (pins_of (kind_of kind))) None } ∷ [] }) c.bytes_at-name.ensures)
+    (subst (λ (n : Name). c.add_comp.new.self ≡ record L { comps = L.comps ++ record { name = n; kind = kind; place = c.point_of.result; joined = replicate (length (pins_of (kind_of kind))) None } ∷ [] })
+    c.bytes_at-name.ensures c.in_ok-add_comp-in-Some.ensures.ok)

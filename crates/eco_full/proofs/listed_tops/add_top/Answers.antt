@@ -1,4 +1,4 @@
-use Rattle.std.proofs.Common.{◌∙◌, [], ◌∷◌, ◌++◌, ap}
+use Rattle.std.proofs.Common.{◌≡◌, ◌∙◌, [], ◌∷◌, ◌++◌, subst}
 use Rattle.eco_def.specs.Named.{NamedPin}
 use Rattle.eco_net.specs.Netlist.{Name}
 use Rattle.eco_net.specs.Listing.{Listing, netlist, net_name}
@@ -14,8 +14,8 @@ returns c =
     let p : NamedPin = named_pin c.args.text.now c.args.pin.now in
     let n = c.in-Some.net.0 in
     new_top L p c.if-pin.false c.requires.new_name n (number_named L n _ c.in-Some.ensures ∙ c.bytes_at.ensures) c.add_top.new.self
-    (c.in_ok-add_top-in-Some.ensures.ok ∙ ap (λ (m : Name). record L { tops = L.tops ++ record { name = m; dir = p.dir; net = n } ∷ [] }) c.bytes_at-name.ensures)
-    (c.in_ok-add_top-in-Some.ensures.named ∙ ap (λ (m : Name). with_top (netlist L) m p.dir (net_name L.nets n)) c.bytes_at-name.ensures)
+    (subst (λ (m : Name). c.add_top.new.self ≡ record L { tops = L.tops ++ record { name = m; dir = p.dir; net = n } ∷ [] }) c.bytes_at-name.ensures c.in_ok-add_top-in-Some.ensures.ok)
+    (subst (λ (m : Name). netlist c.add_top.new.self ≡ with_top (netlist L) m p.dir (net_name L.nets n)) c.bytes_at-name.ensures c.in_ok-add_top-in-Some.ensures.named)
 
 pub returns-then-pin : goal.returns-then-pin
 returns-then-pin c = top_passed c.args.maker.now (named_pin c.args.text.now c.args.pin.now) c.if-pin.true

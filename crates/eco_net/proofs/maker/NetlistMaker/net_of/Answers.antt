@@ -1,4 +1,4 @@
-use Rattle.std.proofs.Common.{◌≡◌, ◌∙◌, sym, ap}
+use Rattle.std.proofs.Common.{◌∙◌, sym, ap}
 use Rattle.std.specs.Option.{option_map}
 use Rattle.eco_net.specs.Listing.{net_name}
 use Rattle.eco_net.proofs.PinNames.{net_named, known_net}
