@@ -192,56 +192,58 @@ fn each_cut_of_a_design_is_a_fault(rt: HostRuntime) -> Result<(), Fail> {
     Ok(())
 }
 
+/// Texts, and their first faults as they are printed.
+const FIRST_FAULTS: [(&str, &str); 29] = [
+    ("VERSION \"", "Text OpenQuote place=8"),
+    ("EXTRA 1 ;", "UnknownHeading place=0"),
+    ("END x", "UnknownHeading place=0"),
+    ("END ", "Unended place=4"),
+    ("END DESIGN", "Missing which=UNITS"),
+    ("NETS 0 ; END NETS END DESIGN", "Missing which=UNITS"),
+    (
+        "UNITS DISTANCE MICRONS 1 ; NETS 0 ; END NETS END DESIGN",
+        "Missing which=COMPONENTS",
+    ),
+    (
+        "UNITS DISTANCE MICRONS 1 ; COMPONENTS 0 ; END COMPONENTS END DESIGN",
+        "Missing which=NETS",
+    ),
+    ("UNITS DISTANCE MICRONS 0 ; \"x", "BadStatement place=23"),
+    ("UNITS DISTANCE MICRONS 01 ;", "BadStatement place=23"),
+    ("UNITS DISTANCE MICRONS 1000001 ;", "BadStatement place=23"),
+    ("COMPONENTS 2 ; - u INV ; - u", "TwiceNamed place=27"),
+    (
+        "COMPONENTS 1 ; - u INV + PLACED ( 1 2147483648 ) N ;",
+        "BadStatement place=36",
+    ),
+    ("PINS 2 ; - a x", "BadStatement place=13"),
+    ("PINS 1 ; - a + DIRECTION INPUT ;", "BadStatement place=31"),
+    ("PINS 1 ; - a + DIRECTION UP ;", "BadStatement place=25"),
+    ("PINS 2 ; - a + NET a ; - a", "TwiceNamed place=25"),
+    ("PINS 0 ; END PINS PINS", "TwiceNamed place=18"),
+    ("SPECIALNETS 1 ; - \"a\" ;", "BadStatement place=18"),
+    (
+        "SPECIALNETS 0 ; END SPECIALNETS SPECIALNETS",
+        "TwiceNamed place=32",
+    ),
+    ("NETS 1 ; - MUSTJOIN ( u1 A ) ;", "MustJoin place=11"),
+    ("NETS 1 ; - a ; - a ( ; ", "TwiceNamed place=17"),
+    ("NETS 1 ; END NETS NETS", "TwiceNamed place=18"),
+    ("NETS 1 ; - a ( u A ) x", "BadStatement place=21"),
+    ("NETS 1 ; - a ( u A + X )", "BadStatement place=21"),
+    ("VIAS 1 ; - v END", "Unended place=16"),
+    (
+        "VIAS 1 ; END STYLES END VIAS END DESIGN",
+        "Missing which=UNITS",
+    ),
+    ("BEGINEXT END DESIGN", "Unended place=19"),
+    ("TRACKS X 1 END DESIGN", "Unended place=21"),
+];
+
 #[test]
 fn first_faults_with_their_places(rt: HostRuntime) -> Result<(), Fail> {
     let alloc = rt.alloc();
-    let table = [
-        ("VERSION \"", "Text OpenQuote place=8"),
-        ("EXTRA 1 ;", "UnknownHeading place=0"),
-        ("END x", "UnknownHeading place=0"),
-        ("END ", "Unended place=4"),
-        ("END DESIGN", "Missing which=UNITS"),
-        ("NETS 0 ; END NETS END DESIGN", "Missing which=UNITS"),
-        (
-            "UNITS DISTANCE MICRONS 1 ; NETS 0 ; END NETS END DESIGN",
-            "Missing which=COMPONENTS",
-        ),
-        (
-            "UNITS DISTANCE MICRONS 1 ; COMPONENTS 0 ; END COMPONENTS END DESIGN",
-            "Missing which=NETS",
-        ),
-        ("UNITS DISTANCE MICRONS 0 ; \"x", "BadStatement place=23"),
-        ("UNITS DISTANCE MICRONS 01 ;", "BadStatement place=23"),
-        ("UNITS DISTANCE MICRONS 1000001 ;", "BadStatement place=23"),
-        ("COMPONENTS 2 ; - u INV ; - u", "TwiceNamed place=27"),
-        (
-            "COMPONENTS 1 ; - u INV + PLACED ( 1 2147483648 ) N ;",
-            "BadStatement place=36",
-        ),
-        ("PINS 2 ; - a x", "BadStatement place=13"),
-        ("PINS 1 ; - a + DIRECTION INPUT ;", "BadStatement place=31"),
-        ("PINS 1 ; - a + DIRECTION UP ;", "BadStatement place=25"),
-        ("PINS 2 ; - a + NET a ; - a", "TwiceNamed place=25"),
-        ("PINS 0 ; END PINS PINS", "TwiceNamed place=18"),
-        ("SPECIALNETS 1 ; - \"a\" ;", "BadStatement place=18"),
-        (
-            "SPECIALNETS 0 ; END SPECIALNETS SPECIALNETS",
-            "TwiceNamed place=32",
-        ),
-        ("NETS 1 ; - MUSTJOIN ( u1 A ) ;", "MustJoin place=11"),
-        ("NETS 1 ; - a ; - a ( ; ", "TwiceNamed place=17"),
-        ("NETS 1 ; END NETS NETS", "TwiceNamed place=18"),
-        ("NETS 1 ; - a ( u A ) x", "BadStatement place=21"),
-        ("NETS 1 ; - a ( u A + X )", "BadStatement place=21"),
-        ("VIAS 1 ; - v END", "Unended place=16"),
-        (
-            "VIAS 1 ; END STYLES END VIAS END DESIGN",
-            "Missing which=UNITS",
-        ),
-        ("BEGINEXT END DESIGN", "Unended place=19"),
-        ("TRACKS X 1 END DESIGN", "Unended place=21"),
-    ];
-    for (text, wanted) in table {
+    for (text, wanted) in FIRST_FAULTS {
         assert_eq!(rt; told(&rt, alloc, text)?.as_str(), wanted, "{text}");
     }
     Ok(())
@@ -262,19 +264,21 @@ fn a_text_that_ends_within_a_joint(rt: HostRuntime) -> Result<(), Fail> {
     Ok(())
 }
 
+/// Sections of one net with two joints, as tools write them.
+const AS_TOOLS_WRITE: [&str; 7] = [
+    "NETS 1 ;\n- a\n  ( PIN a )\n  ( u1 A )\n  + USE SIGNAL\n;\nEND NETS",
+    "NETS 1 ; \r\n- a ( PIN a ) ( u1 A )  \r\n\r\n ;\t\r\nEND NETS\r\n",
+    "TRACKS X -480.0 DO 100 STEP 200 LAYER M1 ;\nBUSBITCHARS \"<>\" ;\nNETS 1 ; - c[3] ( PIN c[3] ) ( u1/x A ) ; END NETS",
+    "NETS 99 ; - a$b<1>\\[2\\] ( PIN a + SYNTHESIZED ) ( * A ) ; END NETS",
+    "GCELLGRID X 0 DO 1 STEP 1 ;\nTECHNOLOGY t ;\nHISTORY any words ;\nNAMESCASESENSITIVE ON ;\nCOMPONENTMASKSHIFT M1 ;\nNETS ; ; - a ( PIN a ) ( u A ) ; END NETS",
+    "PROPERTYDEFINITIONS NET p STRING ; END PROPERTYDEFINITIONS\nSTYLES 0 ; END STYLES\nNONDEFAULTRULES 0 ; END NONDEFAULTRULES\nREGIONS 0 ; END REGIONS\nPINPROPERTIES 0 ; END PINPROPERTIES\nBLOCKAGES 0 ; END BLOCKAGES\nSLOTS 0 ; END SLOTS\nFILLS 0 ; END FILLS\nSCANCHAINS 0 ; END SCANCHAINS\nGROUPS 0 ; END GROUPS\nNETS 1 ; - a ( PIN a ) ( u A ) ; END NETS",
+    "BEGINEXT \"x\" NETS 1 ; - a ENDEXT NETS 1 ; - a ( PIN a ) ( u A ) + ROUTED M1 ( 0 0 ) ( * 5 ) VIA_1 + PROPERTY p \"; END NETS\" ; END NETS",
+];
+
 #[test]
 fn texts_as_tools_write_them(rt: HostRuntime) -> Result<(), Fail> {
     let alloc = rt.alloc();
-    let table = [
-        "NETS 1 ;\n- a\n  ( PIN a )\n  ( u1 A )\n  + USE SIGNAL\n;\nEND NETS",
-        "NETS 1 ; \r\n- a ( PIN a ) ( u1 A )  \r\n\r\n ;\t\r\nEND NETS\r\n",
-        "TRACKS X -480.0 DO 100 STEP 200 LAYER M1 ;\nBUSBITCHARS \"<>\" ;\nNETS 1 ; - c[3] ( PIN c[3] ) ( u1/x A ) ; END NETS",
-        "NETS 99 ; - a$b<1>\\[2\\] ( PIN a + SYNTHESIZED ) ( * A ) ; END NETS",
-        "GCELLGRID X 0 DO 1 STEP 1 ;\nTECHNOLOGY t ;\nHISTORY any words ;\nNAMESCASESENSITIVE ON ;\nCOMPONENTMASKSHIFT M1 ;\nNETS ; ; - a ( PIN a ) ( u A ) ; END NETS",
-        "PROPERTYDEFINITIONS NET p STRING ; END PROPERTYDEFINITIONS\nSTYLES 0 ; END STYLES\nNONDEFAULTRULES 0 ; END NONDEFAULTRULES\nREGIONS 0 ; END REGIONS\nPINPROPERTIES 0 ; END PINPROPERTIES\nBLOCKAGES 0 ; END BLOCKAGES\nSLOTS 0 ; END SLOTS\nFILLS 0 ; END FILLS\nSCANCHAINS 0 ; END SCANCHAINS\nGROUPS 0 ; END GROUPS\nNETS 1 ; - a ( PIN a ) ( u A ) ; END NETS",
-        "BEGINEXT \"x\" NETS 1 ; - a ENDEXT NETS 1 ; - a ( PIN a ) ( u A ) + ROUTED M1 ( 0 0 ) ( * 5 ) VIA_1 + PROPERTY p \"; END NETS\" ; END NETS",
-    ];
-    for nets in table {
+    for nets in AS_TOOLS_WRITE {
         let text = format!(in alloc;
             "DESIGN d ;\nUNITS DISTANCE MICRONS 1 ;\n{nets}\nCOMPONENTS 3 ; END COMPONENTS\nEND DESIGN\n"
         )?;
@@ -283,33 +287,59 @@ fn texts_as_tools_write_them(rt: HostRuntime) -> Result<(), Fail> {
     Ok(())
 }
 
-/// A text whose COMPONENTS has statements of these names.
-fn with_components(alloc: Global, count: u32) -> Result<String, Fail> {
-    let mut text = String::new(alloc);
-    text.push_str("COMPONENTS 0 ;")?;
+/// A section of so many statements, whose names are numbers, up to its END.
+fn section(alloc: Global, heading: &str, count: u32, rest: &str) -> Result<String, Fail> {
+    let mut text = format!(in alloc; "{heading} 0 ;")?;
     for number in 0..count {
-        let line = format!(in alloc; " - {number} M ;")?;
-        text.push_str(&line)?;
+        write!(text, " - {number}{rest} ;")?;
     }
     Ok(text)
+}
+
+/// Behind as many statements as may stand, one more is refused at its name, and one that stands already is told first.
+fn has_no_room(rt: &impl Abort, alloc: Global, text: &str, rest: &str) -> Result<(), Fail> {
+    let place = text.len().saturating_add(3);
+    for (name, fault) in [("x", "Limit"), ("7", "TwiceNamed")] {
+        let more = format!(in alloc; "{text} - {name}{rest} ;")?;
+        let wanted = format!(in alloc; "{fault} place={place}")?;
+        assert_eq!(rt; told(rt, alloc, &more)?, wanted);
+    }
+    Ok(())
 }
 
 #[test]
 fn a_million_components_and_one(rt: HostRuntime) -> Result<(), Fail> {
     let alloc = rt.alloc();
-    let text = with_components(alloc, 1_000_000)?;
+    let text = section(alloc, "COMPONENTS", 1_000_000, " M")?;
     let whole = format!(in alloc;
         "UNITS DISTANCE MICRONS 1 ; {text} END COMPONENTS NETS 0 ; END NETS END DESIGN"
     )?;
     assert_eq!(rt; told(&rt, alloc, &whole)?.as_str(), "1000000 0 0 0");
-    let place = text.len().saturating_add(3);
-    let more = format!(in alloc; "{text} - x M ;")?;
-    let wanted = format!(in alloc; "Limit place={place}")?;
-    assert_eq!(rt; told(&rt, alloc, &more)?, wanted);
-    let again = format!(in alloc; "{text} - 7 M ;")?;
-    let twice = format!(in alloc; "TwiceNamed place={place}")?;
-    assert_eq!(rt; told(&rt, alloc, &again)?, twice);
-    Ok(())
+    has_no_room(&rt, alloc, &text, " M")
+}
+
+#[test]
+fn a_million_top_pins_and_one(rt: HostRuntime) -> Result<(), Fail> {
+    let alloc = rt.alloc();
+    let text = section(alloc, "PINS", 1_000_000, " + NET n")?;
+    let whole = format!(in alloc;
+        "UNITS DISTANCE MICRONS 1 ; COMPONENTS 0 ; END COMPONENTS NETS 0 ; END NETS {text} END PINS END DESIGN"
+    )?;
+    assert_eq!(rt; told(&rt, alloc, &whole)?.as_str(), "0 1000000 0 0");
+    has_no_room(&rt, alloc, &text, " + NET n")
+}
+
+#[test]
+fn a_million_net_statements_and_one(rt: HostRuntime) -> Result<(), Fail> {
+    let alloc = rt.alloc();
+    let special = section(alloc, "SPECIALNETS", 400_000, "")?;
+    let nets = section(alloc, "NETS", 600_000, "")?;
+    let text = format!(in alloc; "{special} END SPECIALNETS {nets}")?;
+    let whole = format!(in alloc;
+        "UNITS DISTANCE MICRONS 1 ; COMPONENTS 0 ; END COMPONENTS {text} END NETS END DESIGN"
+    )?;
+    assert_eq!(rt; told(&rt, alloc, &whole)?.as_str(), "0 0 1000000 0");
+    has_no_room(&rt, alloc, &text, "")
 }
 
 #[test]
