@@ -16,3 +16,4 @@ pub mod NewNames
 pub mod Macros
 pub mod SameJoints
 pub mod Applying
+pub mod TiedTests

@@ -4,6 +4,8 @@ pub mod PlainBases
 pub mod OneGates
 pub mod OneLaws
 pub mod GateBases
+pub mod TiedDesigns
+pub mod OpenedGates
 pub mod Overlays
 pub mod Moving
 pub mod PinMoves

@@ -26,9 +26,9 @@ pub trait Macros {
 impl Macros for Functions {
     ghost kinds = { λ functions name. option_map (λ m. kind_of (Gate m)) (find_master name functions) };
 
-    fn kind(&self, alloc: Global, name: &[u8]) -> Result<Option<Kind>, Memory> {
+    fn kind(&self, _: Global, name: &[u8]) -> Result<Option<Kind>, Memory> {
         match self.find(name) {
-            Some(master) => Ok(Some(Kind::Gate(master.copy(alloc)?))),
+            Some(master) => Ok(Some(Kind::Gate(master.copy()?))),
             None => Ok(None),
         }
     }
