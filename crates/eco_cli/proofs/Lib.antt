@@ -1,5 +1,6 @@
 pub mod Opening
 mod Answering
+mod Counting
 mod Ending
 mod Forms
 mod Reading

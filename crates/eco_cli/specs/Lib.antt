@@ -4,6 +4,8 @@ pub mod Whole
 pub mod Job
 pub mod ValueForms
 pub mod CommandLine
+pub mod Designs
+pub mod CheckCommand
 pub mod MoveCommand
 pub mod ApplyCommand
 pub mod Commands

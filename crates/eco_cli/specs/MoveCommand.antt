@@ -1,13 +1,13 @@
 -- What the command move does.
-use Rattle.std.specs.Prelude.{◌≡◌, ℕ, List, [], ◌∷◌, length, codes, Some, None, Ok, Err}
+use Rattle.std.specs.Prelude.{◌≡◌, ℕ, List, [], ◌∷◌, length, codes, Some, None, Err}
 use Rattle.eco_def.specs.Design.{Design}
 use Rattle.eco_def.specs.Named.{names_of}
-use Rattle.eco_def.specs.Grammar.{design_of}
-use Rattle.eco_def.specs.Limits.{WithinLimits, reading_of}
+use Rattle.eco_def.specs.Limits.{reading_of}
 use Rattle.eco_issued.specs.Changes.{NewJoint}
 use Rattle.eco_issued.specs.Issued.{issued_text}
 use Rattle.eco_base.specs.Moving.{move_fault}
 use Rattle.eco_cli.specs.CommandLine.{Listed, value_of}
+use Rattle.eco_cli.specs.Designs.{HasDesign}
 use Rattle.eco_cli.specs.declared.command_option.OptionKind.TheVariants as kind
 use Rattle.eco_cli.specs.declared.done.Done.{Done}
 use Rattle.eco_cli.specs.declared.done.Done.TheVariants as done
@@ -40,11 +40,6 @@ move_of m = record { comp = m.comp.now; pin = m.pin.now; from = m.from.now; to =
 
 abbrev pub one_joint : Move → List NewJoint
 one_joint m = record { comp = m.comp; pin = m.pin; net = m.to } ∷ []
-
--- the text has this design, within the limits
-pub record HasDesign (text : List ℕ) (d : Design) : Type 0 where
-  pub read : design_of text ≡ Ok d
-  pub limits : WithinLimits d
 
 -- the text has a design, the move can be made in it, and gives this text
 pub record IsMoved (m : Move) (text : List ℕ) (moved : List ℕ) : Type 0 where

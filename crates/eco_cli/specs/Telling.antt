@@ -8,14 +8,19 @@ use Rattle.eco_def.specs.declared.fault.DefFault.{DefFault}
 use Rattle.eco_def.specs.declared.fault.DefFault.TheVariants as def
 use Rattle.eco_def.specs.declared.fault.Section.{Section}
 use Rattle.eco_def.specs.declared.fault.Section.TheVariants.{Units, Components, Nets}
+use Rattle.eco_lef.specs.declared.fault.LefFault.{LefFault}
+use Rattle.eco_lef.specs.declared.fault.LefFault.TheVariants as lef
 use Rattle.eco_base.specs.declared.fault.MoveFault.{MoveFault}
 use Rattle.eco_base.specs.declared.fault.MoveFault.TheVariants as moving
+use Rattle.eco_cli.specs.declared.base_fault.BaseFault.{BaseFault}
+use Rattle.eco_cli.specs.declared.base_fault.BaseFault.TheVariants as base
 use Rattle.eco_cli.specs.declared.done.Done.{Done}
 use Rattle.eco_cli.specs.declared.done.Done.TheVariants as done
 use Rattle.eco_cli.specs.declared.failure.Failure.{Failure}
 use Rattle.eco_cli.specs.declared.failure.Failure.TheVariants as failed
 use Rattle.eco_cli.specs.declared.refusal.Refusal.{Refusal}
 use Rattle.eco_cli.specs.declared.refusal.Refusal.TheVariants as refused
+use Rattle.eco_cli.specs.declared.report.Report.{Report}
 
 abbrev pub status_of : Result Done Failure → ℕ
 status_of (Ok d) = 0
@@ -53,13 +58,42 @@ def_text (def.Limit place) = codes "Limit place=" ++ decimal place
 def_text (def.Missing which) = codes "Missing which=" ++ section_words which
 def_text def.Memory = codes "memory"
 
+-- a fault of a LEF by its name, and its place in bytes or the name of the block that is cut off
+abbrev pub lef_text : LefFault → List ℕ
+lef_text (lef.Text fault) = codes "Text OpenQuote place=" ++ decimal (quote_place fault)
+lef_text (lef.Unended name) = codes "Unended name=" ++ name
+lef_text (lef.TwiceNamed place) = codes "TwiceNamed place=" ++ decimal place
+lef_text (lef.TooManyMasters place) = codes "TooManyMasters place=" ++ decimal place
+lef_text (lef.ArrayBlock place) = codes "ArrayBlock place=" ++ decimal place
+lef_text (lef.BadStatement place) = codes "BadStatement place=" ++ decimal place
+lef_text lef.Memory = codes "memory"
+
+-- the fault of a base's file, behind the file's kind
+abbrev pub base_text : BaseFault → List ℕ
+base_text (base.Lef fault) = codes "eco: base Lef " ++ lef_text fault
+base_text (base.Def fault) = codes "eco: base Def " ++ def_text fault
+
 abbrev pub refusal_text : Refusal → List ℕ
 refusal_text (refused.Def fault) = codes "eco: def " ++ def_text fault
 refusal_text (refused.Move fault) = move_words fault
+refusal_text (refused.Base fault) = base_text fault
 
--- how many bytes were written
+-- a line that ends with a number
+abbrev pub count_line : List ℕ → ℕ → List ℕ
+count_line head n = (head ++ decimal n) ++ 10 ∷ []
+
+abbrev pub report_text : Report → List ℕ
+report_text r =
+    count_line (codes "masters ") r.masters
+    ++ (count_line (codes "components ") r.components
+    ++ (count_line (codes "pins ") r.pins
+    ++ (count_line (codes "statements ") r.statements
+    ++ count_line (codes "joints ") r.joints)))
+
+-- how many bytes were written, or what the files have
 abbrev pub done_text : Done → List ℕ
-done_text (done.Written n) = codes "written " ++ decimal n
+done_text (done.Written n) = count_line (codes "written ") n
+done_text (done.Checked report) = report_text report
 
 -- of bad words the index of the first
 abbrev pub failure_text : Failure → List ℕ
@@ -72,7 +106,7 @@ failure_text failed.Memory = codes "eco: memory"
 
 -- what is printed: a line, or several
 abbrev pub line_of : Result Done Failure → List ℕ
-line_of (Ok d) = done_text d ++ 10 ∷ []
+line_of (Ok d) = done_text d
 line_of (Err f) = failure_text f ++ 10 ∷ []
 
 -- It was printed, and this is the status; or the output failed, after a front of it.

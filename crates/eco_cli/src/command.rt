@@ -4,6 +4,7 @@ ghost use Rattle.std.specs.Prelude.{◌≡◌, map, string_bytes, MatchResult};
 ghost use Rattle.eco_cli.specs.CommandLine.{listed_of};
 ghost use Rattle.eco_cli.specs.Commands.{command_named, options_of, Asks, IsBadWord};
 
+use crate::check_words::check_options;
 use crate::command_line::first_bad;
 use crate::command_option::CommandOption;
 use crate::move_words::move_options;
@@ -12,6 +13,7 @@ use crate::move_words::move_options;
 #[derive(Clone, Copy, Debug, Drop, PartialEq, Eq)]
 pub enum Command {
     Move,
+    Check,
 }
 
 /// What a command line asks: a command, and the words behind it.
@@ -26,6 +28,8 @@ fn named(word: &str) -> Option<Command>
 {
     if word == "move" {
         Some(Command::Move)
+    } else if word == "check" {
+        Some(Command::Check)
     } else {
         None
     }
@@ -37,6 +41,7 @@ pub fn options(command: Command) -> &'static [CommandOption]
 {
     match command {
         Command::Move => move_options(),
+        Command::Check => check_options(),
     }
 }
 

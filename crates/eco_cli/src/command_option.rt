@@ -22,6 +22,9 @@ pub struct CommandOption {
     pub kind: OptionKind,
 }
 
+/// The most bytes of a LEF.
+pub const LEF_LIMIT: u32 = 67_108_864;
+
 /// The most bytes of a DEF.
 pub const DEF_LIMIT: u32 = 134_217_728;
 

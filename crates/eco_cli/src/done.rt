@@ -1,8 +1,12 @@
 //! What a command did.
 
+use crate::report::Report;
+
 /// What is told of a command that did its work.
 #[derive(Debug, Drop)]
 pub enum Done {
     /// So many bytes were written to the output.
     Written(u64),
+    /// The files were read, and have so much.
+    Checked(Report),
 }

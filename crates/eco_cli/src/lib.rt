@@ -2,6 +2,9 @@
 #![tactic(auto)]
 
 mod apply_words;
+mod base_fault;
+mod check_words;
+mod checking;
 mod command;
 mod command_line;
 mod command_option;
@@ -19,6 +22,7 @@ mod open;
 mod output;
 mod plan;
 mod refusal;
+mod report;
 mod returned;
 mod running;
 mod telling;

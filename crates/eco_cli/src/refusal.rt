@@ -1,5 +1,6 @@
 //! Why the texts of the inputs, or what is asked in them, are refused.
 
+use crate::base_fault::BaseFault;
 use eco_base::MoveFault;
 use eco_def::DefFault;
 
@@ -10,4 +11,6 @@ pub enum Refusal {
     Def(DefFault),
     /// The move is refused.
     Move(MoveFault),
+    /// A file of the base is refused.
+    Base(BaseFault),
 }

@@ -1,32 +1,47 @@
 //! What a command prints, and its status.
 
-ghost use Rattle.std.specs.Prelude.{◌≡◌, ◌≤◌, decimal, ◌++◌, [], ◌∷◌};
+ghost use Rattle.std.specs.Prelude.{◌≡◌, ◌≤◌, codes, decimal, ◌++◌, [], ◌∷◌};
 ghost use Rattle.std.specs.List.{flat_map};
 ghost use Rattle.eco_text.specs.Writing.{joined, Writes};
-ghost use Rattle.eco_cli.specs.Telling.{status_of, move_words, section_words, quote_place as place_of_quote, def_text, refusal_text, failure_text, done_text, line_of, Tells};
+ghost use Rattle.eco_cli.specs.Telling.{status_of, move_words, section_words, quote_place as place_of_quote, def_text, lef_text, base_text, refusal_text, failure_text, count_line, report_text, done_text, line_of, Tells};
 
+use crate::base_fault::BaseFault;
 use crate::done::Done;
 use crate::failure::Failure;
 use crate::refusal::Refusal;
+use crate::report::Report;
 use eco_base::MoveFault;
 use eco_def::{DefFault, Section};
+use eco_lef::LefFault;
 use eco_text::{Failed, Sink, TextFault, write_piece, write_pieces};
 use itoa::Buffer;
 
 /// A line that ends with a number.
 fn print_number<O: Sink>(head: &[u8], number: u64, out: &mut O) -> Result<(), Failed>
-    ensures { Writes O.taken O.faults out.old out.new result ((head.now ++ decimal number) ++ 10 ∷ []) }
+    ensures { Writes O.taken O.faults out.old out.new result (count_line head.now number) }
 {
     let mut buffer = Buffer::new();
     let digits = buffer.format(number);
     write_pieces(out, &[head, digits.as_bytes(), b"\n"])
 }
 
+/// The five lines of a report.
+fn print_report<O: Sink>(report: &Report, out: &mut O) -> Result<(), Failed>
+    ensures { Writes O.taken O.faults out.old out.new result (report_text report.now) }
+{
+    print_number(b"masters ", report.masters as u64, out)?;
+    print_number(b"components ", report.components as u64, out)?;
+    print_number(b"pins ", report.pins as u64, out)?;
+    print_number(b"statements ", report.statements as u64, out)?;
+    print_number(b"joints ", report.joints as u64, out)
+}
+
 fn print_done<O: Sink>(done: &Done, out: &mut O) -> Result<(), Failed>
-    ensures { Writes O.taken O.faults out.old out.new result (done_text done.now ++ 10 ∷ []) }
+    ensures { Writes O.taken O.faults out.old out.new result (done_text done.now) }
 {
     match done {
         Done::Written(length) => print_number(b"written ", *length, out),
+        Done::Checked(report) => print_report(report, out),
     }
 }
 
@@ -104,12 +119,42 @@ fn print_def<O: Sink>(head: &[u8], fault: DefFault, out: &mut O) -> Result<(), F
     }
 }
 
+/// The line of a LEF's fault.
+fn print_lef<O: Sink>(fault: &LefFault, out: &mut O) -> Result<(), Failed>
+    ensures { Writes O.taken O.faults out.old out.new result ((codes "eco: base Lef " ++ lef_text fault.now) ++ 10 ∷ []) }
+{
+    let head = b"eco: base Lef ";
+    match fault {
+        LefFault::Text(fault) => {
+            print_place(head, b"Text OpenQuote place=", quote_place(*fault), out)
+        }
+        LefFault::Unended { name } => print_parts(head, b"Unended name=", name.bytes(), out),
+        LefFault::TwiceNamed { place } => print_place(head, b"TwiceNamed place=", *place, out),
+        LefFault::TooManyMasters { place } => {
+            print_place(head, b"TooManyMasters place=", *place, out)
+        }
+        LefFault::ArrayBlock { place } => print_place(head, b"ArrayBlock place=", *place, out),
+        LefFault::BadStatement { place } => print_place(head, b"BadStatement place=", *place, out),
+        LefFault::Memory => print_parts(head, b"memory", b"", out),
+    }
+}
+
+fn print_base<O: Sink>(fault: &BaseFault, out: &mut O) -> Result<(), Failed>
+    ensures { Writes O.taken O.faults out.old out.new result (base_text fault.now ++ 10 ∷ []) }
+{
+    match fault {
+        BaseFault::Lef(fault) => print_lef(fault, out),
+        BaseFault::Def(fault) => print_def(b"eco: base Def ", *fault, out),
+    }
+}
+
 fn print_refusal<O: Sink>(refusal: &Refusal, out: &mut O) -> Result<(), Failed>
     ensures { Writes O.taken O.faults out.old out.new result (refusal_text refusal.now ++ 10 ∷ []) }
 {
     match refusal {
         Refusal::Def(fault) => print_def(b"eco: def ", *fault, out),
         Refusal::Move(fault) => write_piece(move_line(*fault), out),
+        Refusal::Base(fault) => print_base(fault, out),
     }
 }
 

@@ -8,7 +8,7 @@ use Rattle.eco_net.specs.Drivers.{IsFree}
 use Rattle.eco_net.specs.CutKeys.{CutKey, CutBits, KeyOf, IsCutKey, IsChoice, key_cmp}
 use Rattle.eco_net.proofs.Basics.{Has, same_Some, not_None, has_key}
 use Rattle.eco_net.proofs.Decide.{Shape, supply_net, computed_net, free_net, no_net, shape}
-use Rattle.eco_net.proofs.Values.{one_key}
+use Rattle.eco_net.proofs.Solved.{one_key}
 use Rattle.eco_net.proofs.Keys.{key_cmp_total, key_cmp-IsAntisymmetric}
 
 -- ---- the cut keys as a list

@@ -22,7 +22,7 @@ use Rattle.eco_net.specs.Kept.{IsRow, IsListing}
 use Rattle.eco_net.specs.ByNumber.{role_at, driver_at}
 use Rattle.eco_net.specs.Gates.{GatePin, by_kind, gate_at, gate_pin, unsupplied, computed_by, input_count, inputs_in, inputs_at, Reads}
 use Rattle.eco_net.proofs.Basics.{Has, same_Some, not_None, has_from_contains, contains_from_has, has_map, has_of_map}
-use Rattle.eco_net.proofs.Values.{one_table}
+use Rattle.eco_net.proofs.Solved.{one_table}
 use Rattle.eco_net.proofs.AllPins.{split_has}
 use Rattle.eco_net.proofs.Decide.{same_comp, same_place}
 use Rattle.eco_net.proofs.Places.{at_place}
@@ -219,6 +219,10 @@ module _ (L : Listing) (is : IsListing L) where
           let role : q.pin.1 ≡ Computes t = same_Some (sym (role_is L is c.0 q.row k q.pin q.is q.at) ∙ ap₂ role_of gate (same_place s) ∙ m.at) in
           by_row c k e q role q.row.kind refl
 
+  -- the pin that computes a net is a known one
+  pub gate_known : (n : ℕ) (g : GatePin) → computed_by L n ≡ Some g → IsKnownPin L (Pin g.0 g.1)
+  gate_known n g e = let w = gate_is L n g e in (driver_named L is n (Pin g.0 g.1) (slice_get_within L.nets n w.row w.net) w.driver).0
+
   pub not_computed : (n : ℕ) → n < length L.nets → computed_by L n ≡ None → IsComputed (netlist L) (nm n) → ⊥
   not_computed n h e m = let w = named_computed n h m.0 m.1 m.2 in not_None (sym w.1 ∙ e)
 
@@ -244,7 +248,7 @@ module _ (L : Listing) (is : IsListing L) where
       let w = net_found L is q None m.2.unsupplied in
       (w.0, slice_get_within L.nets w.0 w.1 w.2, net_name_is L is w.0 w.1 w.2 ∙ w.3)
 
-  some_name : (j : Option ℕ) (q : Name) → option_map nm j ≡ Some q → (i : ℕ) × (j ≡ Some i) × (nm i ≡ q)
+  pub some_name : (j : Option ℕ) (q : Name) → option_map nm j ≡ Some q → (i : ℕ) × (j ≡ Some i) × (nm i ≡ q)
   some_name None q e = absurd (not_None (sym e))
   some_name (Some i) q e = (i, refl, same_Some e)
 

@@ -9,7 +9,7 @@ use Rattle.eco_net.specs.Drivers.{IsComputed, IsFree}
 use Rattle.eco_net.specs.CutKeys.{CutKey, PinKey, NetKey, KeyOf, key_cmp, key_names}
 use Rattle.eco_net.proofs.Basics.{same_Some, not_None}
 use Rattle.eco_net.proofs.Decide.{Shape, supply_net, computed_net, free_net, no_net, shape}
-use Rattle.eco_net.proofs.Values.{one_key}
+use Rattle.eco_net.proofs.Solved.{one_key}
 
 pub one_cut_key : (N : Netlist) (n : Name) → IsFree N n → (key : CutKey) × KeyOf N n key × ((other : CutKey) → KeyOf N n other → other ≡ key)
 one_cut_key N n f = go (shape N n)

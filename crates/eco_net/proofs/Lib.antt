@@ -1,7 +1,7 @@
 pub mod Basics
 pub mod Decide
 pub mod Grounded
-pub mod Values
+pub mod Solved
 pub mod One
 pub mod Keys
 pub mod Choices
@@ -33,5 +33,10 @@ pub mod KeyNames
 pub mod SinkNames
 pub mod SeenNames
 pub mod Valued
+pub mod InOrder
+pub mod GateTables
+pub mod KeyCounts
+pub mod DepthNumbers
+pub mod DepthNames
 mod Examples
 mod Loops

@@ -13,7 +13,7 @@ use Rattle.eco_net.specs.Walks.{IsLoopFree}
 use Rattle.eco_net.proofs.Basics.{Has, contains_from_has, same_of_cmp, map_agree}
 use Rattle.eco_net.proofs.Decide.{Shape, supply_net, computed_net, free_net, no_net, shape}
 use Rattle.eco_net.proofs.Grounded.{Grounded, grounded, all_grounded}
-use Rattle.eco_net.proofs.Values.{Solves, at, reads_agree, value, solves}
+use Rattle.eco_net.proofs.Solved.{Solves, at, reads_agree, value, solves}
 
 -- ---- no other
 
@@ -117,7 +117,7 @@ same_at N v w n a b h = go (get N.nets n) refl (get w n) refl (get v n) refl
     go (Some s) e (Some x) f None g = absurd (true≢false (sym (ap is_some e) ∙ sym a ∙ ap is_some g))
     go (Some s) e (Some x) f (Some y) g = ap Some (sym (ap (λ o. unwrap_or o false) f) ∙ h ∙ ap (λ o. unwrap_or o false) g)
 
-one_of : (N : Netlist) (cut : CutBits) (v w : Valuation) → IsLoopFree N → IsValuation N cut v → IsValuation N cut w → w ≡ v
+pub one_of : (N : Netlist) (cut : CutBits) (v w : Valuation) → IsLoopFree N → IsValuation N cut v → IsValuation N cut w → w ≡ v
 one_of N cut v w free a b = same_map nat_list_cmp_total exact_bytes w v (λ n.
     same_at N v w n (a.keys n) (b.keys n) (same_value N (chosen cut) (bit w) (bit v) (valuation_solves N cut w b) (valuation_solves N cut v a) n (all_grounded N free n)))
 

@@ -27,7 +27,7 @@ use Rattle.eco_net.proofs.GateNames.{nm, gate_is, GateIs, computed_named, named_
 use Rattle.eco_net.proofs.InputPins.{taken_at}
 use Rattle.eco_net.proofs.Keys.{key_cmp_total, key_cmp-IsAntisymmetric}
 use Rattle.eco_net.proofs.KeyNames.{keyed, unkeyed}
-use Rattle.eco_net.proofs.Values.{one_key, one_table}
+use Rattle.eco_net.proofs.Solved.{one_key, one_table}
 
 -- ---- zipped lists
 
@@ -44,7 +44,7 @@ zip_names (x ∷ ks) (y ∷ vs) e = ap (λ xs. x ∷ xs) (zip_names ks vs (omega
 
 -- ---- keys in their order
 
-same_key : (k l : CutKey) → eq_by_cmp key_cmp k l ≡ true → k ≡ l
+pub same_key : (k l : CutKey) → eq_by_cmp key_cmp k l ≡ true → k ≡ l
 same_key k l e = key_cmp-IsAntisymmetric k l ((Equal-is (key_cmp k l)).0 e)
 
 key_itself : (k : CutKey) → eq_by_cmp key_cmp k k ≡ true
@@ -167,7 +167,7 @@ module _ (L : Listing) (is : IsListing L) where
           ∙ r bs (omega (arith, l))
           ∙ ap (λ n. Some (get_or (b ∷ bs) n false)) z
 
-  key_bit : (bits : List Bool) → length bits ≡ length (keys_of L) → (n : ℕ) (key : KeyNumber) → n < length L.nets → key_at L n ≡ Some key → get (cut_bits L bits) (key_named L key) ≡ Some (get_or bits (keys_before L n) false)
+  pub key_bit : (bits : List Bool) → length bits ≡ length (keys_of L) → (n : ℕ) (key : KeyNumber) → n < length L.nets → key_at L n ≡ Some key → get (cut_bits L bits) (key_named L key) ≡ Some (get_or bits (keys_before L n) false)
   key_bit bits l n key h k =
       let z : 0 + n ≡ n = omega arith in
       get-from_entries key_cmp_total _ (key_named L key)

@@ -16,7 +16,9 @@ pub mod Pins
 pub mod Gates
 pub mod Among
 pub mod Search
+pub mod Levelled
 pub mod LevelsOf
+pub mod DepthsOf
 pub mod Rings
 pub mod KeysOf
 pub mod Seen

@@ -10,7 +10,8 @@ impl Kind {
 
     /// How many inputs it has, if it is a gate.
     pub(crate) fn input_count(&self) -> usize
-        ensures { result ≡ input_count self.now }
+        ensures count { result ≡ input_count self.now }
+        ensures few { result ≤ 6 }
     {
         match self {
             Kind::Gate(master) => master.inputs().len(),

@@ -8,18 +8,32 @@ use std::fmt::{self, Display, Formatter, Write};
 use std::marker::Model;
 use thiserror::Error;
 
-/// The computed nets of a loop-free netlist, each after all computed nets that its driver reads.
+/// The computed nets of a loop-free netlist, each after all computed nets that its driver reads, and how deep its gates
+/// stand.
 #[derive(Drop)]
 pub struct Levels {
     pub(crate) order: Vec<u32>,
+    pub(crate) depth: u32,
 }
 
 impl Model for Levels {
-    ghost use Rattle.std.specs.Prelude.{List, ℕ};
+    ghost use Rattle.eco_net.specs.Levelled.{Levelled};
 
-    ghost Value = { List ℕ };
+    ghost Value = { Levelled };
 
-    ghost view = { λ l. l.order.items };
+    ghost view = { λ l. record { order = l.order.items; depth = l.depth } };
+}
+
+impl Levels {
+    ghost use Rattle.std.specs.Prelude.{◌≡◌};
+
+    /// The greatest depth of a gate, and 0 where there is none. A gate's depth is one more than the greatest depth of the
+    /// gates that drive the computed nets it reads, and 1 if it reads none.
+    pub fn depth(&self) -> u32
+        ensures { result ≡ self.now.depth }
+    {
+        self.depth
+    }
 }
 
 /// Names of nets.
@@ -98,7 +112,10 @@ impl Netlist {
     {
         let _counts = self.counts();
         match self.order(alloc) {
-            Ok(order) => Ok(Levels { order }),
+            Ok(order) => {
+                let depth = self.depth(alloc, &order)?;
+                Ok(Levels { order, depth })
+            }
             Err(Stop::Memory) => Err(LoopFault::Memory),
             Err(Stop::Ring(ring)) => {
                 let first = self.least(&ring);

@@ -6,6 +6,8 @@
 
 mod copies;
 mod cut;
+mod depth;
+mod evaluation;
 mod gates;
 mod ids;
 mod index;
@@ -25,6 +27,7 @@ mod sinks;
 mod walk;
 
 pub use crate::cut::{CutKey, CutValues};
+pub use crate::evaluation::Values;
 pub use crate::ids::{CompId, Counts, NetId, PinRef, TopId};
 pub use crate::kind::{BoxPin, BoxPins, Kind};
 pub use crate::laws::{

@@ -9,7 +9,7 @@ use Rattle.std.proofs.lemmas.Map.Lookups.{exact_bytes}
 use Rattle.eco_net.specs.Netlist.{Name, name_cmp, Netlist, Component, Gate, Role, pins_of, role_of}
 use Rattle.eco_net.specs.Drivers.{is_driving, driven_at, Computed, IsComputed}
 use Rattle.eco_net.specs.Walks.{ReadsNet, Walk, IsLoopFree}
-use Rattle.eco_net.proofs.Values.{one_table}
+use Rattle.eco_net.proofs.Solved.{one_table}
 use Rattle.eco_net.proofs.Basics.{Has, has_from_contains, same_Some, not_None, same_name, same_of_cmp, cmp_itself, find_first, find_rest}
 use Rattle.eco_net.proofs.Lists.{Part, Lists, component, components, made, comp_made, joined_made, EachReads, reads_by}
 use Rattle.eco_patch.specs.Orders.{PatchGate}

@@ -11,7 +11,7 @@ use Rattle.eco_net.specs.Valuation.{look, read, Valuation, IsValuation}
 use Rattle.eco_net.specs.Walks.{ReadsNet, Walk, IsLoopFree}
 use Rattle.eco_net.proofs.Basics.{Has, same_Some, not_None, contains_from_has, has_from_contains}
 use Rattle.eco_net.proofs.Decide.{same_comp, same_table}
-use Rattle.eco_net.proofs.Values.{one_table}
+use Rattle.eco_net.proofs.Solved.{one_table}
 use Rattle.eco_net.proofs.One.{one_valuation}
 use Rattle.eco_patch.specs.Bases.{IsConstant}
 use Rattle.eco_patch.specs.Meaning.{SameMeaning}

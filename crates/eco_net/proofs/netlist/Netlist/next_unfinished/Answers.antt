@@ -21,7 +21,7 @@ returns-then-not-is_done c =
     let at : slice_get L.comps c.in-Some.comp.0 ≡ Some c.comp-row.result.now = subst (λ (M : Listing). slice_get M.comps c.in-Some.comp.0 ≡ Some c.comp-row.result.now) c.self.view_is c.comp-row.ensures.at in
     let s = some_of c.gate_of-in-Some-get.result (sym c.is_some.ensures ∙ c.if-is_some.true) in
     let from : computed_by L a ≡ Some s.0 = sym c.gate_of-in-Some-get.ensures ∙ s.1 in (
-      reads_at L a c.args.net g s.0 c.comp-row.result.now c.loop-pin.pin to at (omega (arith, c.loop-pin-test.true, c.input_count-pin-end.ensures)) (c.get.ensures ∙ ap Some c.in-Some-get.is) from,
+      reads_at L a c.args.net g s.0 c.comp-row.result.now c.loop-pin.pin to at (omega (arith, c.loop-pin-test.true, c.input_count-pin-end.ensures.count)) (c.get.ensures ∙ ap Some c.in-Some-get.is) from,
       λ m. true≢false (sym (c.is_done.ensures.1 (get_or_from_slice_get c.args.marks.now a Done Unseen m)) ∙ c.if-not-is_done.true),
     )
 
@@ -52,4 +52,4 @@ returns c = λ a r.
     let to : computed_by L c.args.net ≡ Some g = sym c.gate_of.ensures ∙ c.in-Some.is in
     let at : slice_get L.comps c.in-Some.comp.0 ≡ Some c.comp-row.result.now = subst (λ (M : Listing). slice_get M.comps c.in-Some.comp.0 ≡ Some c.comp-row.result.now) c.self.view_is c.comp-row.ensures.at in
     let w = read_place L a c.args.net r g c.comp-row.result.now to at in
-    c.loop-pin.invariant w.0 a (omega (arith, w.1, c.loop-pin-test.false, c.input_count-pin-end.ensures)) w.2 (r.source, r.from)
+    c.loop-pin.invariant w.0 a (omega (arith, w.1, c.loop-pin-test.false, c.input_count-pin-end.ensures.count)) w.2 (r.source, r.from)
