@@ -63,7 +63,14 @@ fn print_expression<O: Sink>(
 {
     let mut buffer = Buffer::new();
     let digits = buffer.format(place).as_bytes();
-    print_three(b"BadExpression master=", master, output, b" place=", digits, out)
+    print_three(
+        b"BadExpression master=",
+        master,
+        output,
+        b" place=",
+        digits,
+        out,
+    )
 }
 
 /// The line of a functions file's fault.
@@ -95,7 +102,14 @@ fn print_func<O: Sink>(fault: &FuncFault, out: &mut O) -> Result<(), Failed>
             input,
         } => {
             let (master, output, input) = (master.bytes(), output.bytes(), input.bytes());
-            print_three(b"UnknownInput master=", master, output, b" input=", input, out)
+            print_three(
+                b"UnknownInput master=",
+                master,
+                output,
+                b" input=",
+                input,
+                out,
+            )
         }
         FuncFault::TooManyMasters { count } => {
             print_number(b"eco: base Func TooManyMasters count=", *count as u64, out)

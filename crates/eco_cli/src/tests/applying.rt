@@ -117,7 +117,8 @@ END NETS
 END DESIGN
 ";
 
-const LINE: &str = "apply --def d --functions f --high VDD --low VSS --spare SP_1 --table 10 --inputs a --pins 1,i0 --output m1 --comp u2 --pin A --from n1 --out o";
+const LINE: &str =
+    "apply --def d --functions f --high VDD --low VSS --spare SP_1 --table 10 --inputs a --pins 1,i0 --output m1 --comp u2 --pin A --from n1 --out o";
 
 #[test]
 fn an_inverter_on_a_spare(rt: HostRuntime) -> Result<(), Fail> {
