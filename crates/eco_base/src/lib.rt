@@ -18,6 +18,7 @@ mod new_joint;
 mod of_joints;
 mod one_fault;
 mod one_gate;
+mod one_patch;
 mod overlay;
 mod pin_move;
 mod standing;
@@ -35,6 +36,7 @@ pub use crate::moving::move_joint;
 pub use crate::new_joint::NewJoint;
 pub use crate::one_fault::OneFault;
 pub use crate::one_gate::OneGate;
+pub use crate::one_patch::apply_one;
 pub use crate::overlay::Overlay;
 pub use crate::writer::{emit, emit_len};
 

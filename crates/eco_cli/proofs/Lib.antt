@@ -3,6 +3,7 @@ mod Answering
 mod Counting
 mod Ending
 mod Forms
+mod Lines
 mod Reading
 mod Words
 mod Writing
