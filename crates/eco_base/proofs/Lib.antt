@@ -16,3 +16,6 @@ pub mod NewNames
 pub mod Macros
 pub mod SameJoints
 pub mod Applying
+pub mod SpareTables
+pub mod GatePins
+pub mod Spares

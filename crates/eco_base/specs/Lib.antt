@@ -8,3 +8,4 @@ pub mod Overlays
 pub mod Moving
 pub mod PinMoves
 pub mod NetChanges
+pub mod OneSteps

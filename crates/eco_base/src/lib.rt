@@ -3,16 +3,21 @@
 
 mod bytes;
 mod coming;
+mod embedded;
 mod fault;
 mod fresh;
 mod gate_base;
+mod gate_joints;
+mod good_order;
 mod issuing;
 mod laws;
 mod moves;
 mod moving;
+mod named_pins;
 mod names;
 mod net_changes;
 mod new_joint;
+mod new_nets;
 mod of_joints;
 mod one_fault;
 mod one_gate;
@@ -22,6 +27,7 @@ mod standing;
 mod statement;
 mod stretch;
 mod writer;
+mod spare;
 
 pub use crate::fault::MoveFault;
 pub use crate::gate_base::GateBase;
