@@ -1,6 +1,5 @@
 -- A gate of a listing: its pins by number and by name
-use Rattle.std.proofs.Common.{◌≡◌, ◌≢◌, ℕ, zero, suc, ◌+◌, ◌-◌, ◌<◌, ◌≤◌, Bool, true, List, [], ◌∷◌, ◌++◌, map, length, Option, Some, None, refl, sym, ap, ap₂, ◌∙◌, subst, arith, slice_get, inl, inr, ⊎_elim, ◌⊎◌}
-use Rattle.std.specs.List.{Contains}
+use Rattle.std.proofs.Common.{◌≡◌, ◌≢◌, ℕ, zero, suc, ◌<◌, ◌≤◌, Bool, List, [], ◌∷◌, ◌++◌, map, length, Some, None, refl, sym, ap, ◌∙◌, subst, arith, slice_get, inl, inr, ⊎_elim, ◌⊎◌}
 use Rattle.std.specs.Option.{option_map, unwrap_or}
 use Rattle.std.specs.FinMap.{get, find}
 use Rattle.std.proofs.lemmas.List.{length-map}
@@ -13,12 +12,12 @@ use Rattle.eco_net.specs.declared.ids.PinRef.TheVariants.{Pin}
 use Rattle.eco_net.specs.declared.kind.Kind.{Kind as Given}
 use Rattle.eco_net.specs.declared.kind.Kind.TheVariants.{Gate as GivenGate, Boxed as GivenBox}
 use Rattle.eco_net.specs.declared.rows.CompRow.{CompRow}
-use Rattle.eco_net.specs.Netlist.{Name, name_cmp, Kind, Gate, Boxed, Component, Role, Reads, Computes, Outside, CompPin, pins_of, role_of}
+use Rattle.eco_net.specs.Netlist.{Name, name_cmp, Gate, Boxed, Component, Role, Reads, Computes, Outside, CompPin, pins_of, role_of}
 use Rattle.eco_net.specs.Drivers.{net_of, joined_at}
 use Rattle.eco_net.specs.Listing.{Listing, netlist, component, pins, comp_names, pin_at, pin_named, kind_of, bits_of, HasPin, IsKnownPin}
 use Rattle.eco_net.specs.Kept.{IsListing}
-use Rattle.eco_net.proofs.Basics.{Has, same_Some, not_None, same_name, find_first, find_rest, has_found}
-use Rattle.eco_net.proofs.Places.{at_place, row_of_name, name_of_row, push_last}
+use Rattle.eco_net.proofs.Basics.{Has, same_Some, not_None, same_name, find_first, find_rest}
+use Rattle.eco_net.proofs.Places.{row_of_name, name_of_row, push_last}
 use Rattle.eco_net.proofs.Named.{comp_is, role_is}
 use Rattle.eco_base.specs.OneSteps.{gate_master}
 

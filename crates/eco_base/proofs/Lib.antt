@@ -19,3 +19,5 @@ pub mod Applying
 pub mod SpareTables
 pub mod GatePins
 pub mod Spares
+pub mod MovedPins
+pub mod FedPins

@@ -1,18 +1,15 @@
 -- The test of a spare: what it finds, and what it refutes
-use Rattle.std.proofs.Common.{◌≡◌, ℕ, ◌<◌, Bool, true, false, List, [], ◌∷◌, map, length, Option, Some, None, refl, sym, ap, ◌∙◌, subst, arith, slice_get, inl, inr, ⊎_elim, ◌⊎◌, is_some, true≢false, Bor, option_copied}
-use Rattle.std.specs.List.{Contains}
+use Rattle.std.proofs.Common.{◌≡◌, Bool, true, false, List, [], ◌∷◌, map, length, Option, Some, None, refl, sym, ap, ◌∙◌, subst, arith, slice_get, inl, inr, ⊎_elim, ◌⊎◌, is_some, true≢false, Bor, option_copied}
 use Rattle.std.specs.Option.{option_map}
 use Rattle.std.specs.FinMap.{get}
-use Rattle.std.proofs.lemmas.List.{length-map}
 use Rattle.eco_text.specs.declared.geometry.Point.{Point}
 use Rattle.eco_func.specs.declared.output.OutputFn.{OutputFn}
 use Rattle.eco_func.specs.Masters.{MasterTables, is_master}
 use Rattle.eco_net.specs.declared.ids.CompId.{CompId}
 use Rattle.eco_net.specs.declared.ids.PinRef.TheVariants.{Pin}
-use Rattle.eco_net.specs.declared.kind.Kind.TheVariants.{Gate as GivenGate}
-use Rattle.eco_net.specs.Netlist.{Name, Component, Gate, Boxed, Reads, Computes}
+use Rattle.eco_net.specs.Netlist.{Name, Gate, Boxed, Reads, Computes}
 use Rattle.eco_net.specs.Drivers.{net_of}
-use Rattle.eco_net.specs.Listing.{Listing, netlist, component, pin_named, kind_of, bits_of}
+use Rattle.eco_net.specs.Listing.{Listing, netlist, pin_named, bits_of}
 use Rattle.eco_net.specs.Kept.{IsListing}
 use Rattle.eco_net.proofs.Basics.{Has, same_Some, not_None, has_from_contains, contains_from_has}
 use Rattle.eco_net.proofs.Places.{at_place}

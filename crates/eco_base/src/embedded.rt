@@ -28,8 +28,9 @@ pub(crate) fn is_embedded(master: &MasterFn, one: &OneGate) -> bool
     requires { length one.now.inputs.items ≡ one.now.table.inputs }
     ensures { (x : Component) (o : OutputFn) → x.kind ≡ kind_of (OfMaster master.now) → master.now.outputs ≡ o ∷ [] → IsTrue result ↔ IsEmbedded one.now x o.pin }
 {
-    if one.feeds.len() != master.inputs().len() {
+    let feeds = one.feeds.as_slice();
+    if feeds.len() != master.inputs().len() {
         return false;
     }
-    fits(&one.table, master, &embedding_of(&one.feeds))
+    fits(&one.table, master, &embedding_of(feeds))
 }

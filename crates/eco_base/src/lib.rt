@@ -23,11 +23,11 @@ mod one_fault;
 mod one_gate;
 mod overlay;
 mod pin_move;
+mod spare;
 mod standing;
 mod statement;
 mod stretch;
 mod writer;
-mod spare;
 
 pub use crate::fault::MoveFault;
 pub use crate::gate_base::GateBase;

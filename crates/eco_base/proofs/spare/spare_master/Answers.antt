@@ -4,7 +4,7 @@ use Rattle.eco_net.specs.declared.ids.PinRef.TheVariants.{Pin}
 use Rattle.eco_net.specs.Drivers.{net_of}
 use Rattle.eco_net.specs.Listing.{netlist, pin_named}
 use Rattle.eco_base.specs.OneSteps.{AreTied}
-use Rattle.eco_base.proofs.GatePins.{GateAt, gate_at, box_at, place_within, pin_known}
+use Rattle.eco_base.proofs.GatePins.{GateAt, gate_at, box_at, place_within}
 use Rattle.eco_base.proofs.Spares.{no_gate, one_output, is_placed, are_tied, is_off, spare_gate, not_some, not_none, copied_none}
 use Rattle.eco_base.proofs.spare.spare_master.Goals as goal
 use Rattle.eco_base.proofs.spare.spare_master.Goals.{else-are_tied-via-then-are_tied+else-is_none-2, else-are_tied-via-else-are_tied}
@@ -50,8 +50,8 @@ returns-else-are_tied c s =
     let long = ap length c.inputs.ensures.value in
     elim c.else-are_tied.branch [
       | else-are_tied-via-then-are_tied+else-is_none-2 w ↦
-        true≢false (sym w.if-is_none-2.ensures
-        ∙ not_none (copied_none w.net_at.result (w.net_at.ensures ∙ ap (λ n. net_of (netlist c.args.netlist.now) (pin_named c.args.netlist.now (Pin c.in-Some.comp n))) long ∙ is_off c.args.netlist.now c.requires c.args.low.now c.args.high.now c.args.name.now c.in-Some.comp m g s)))
+          true≢false (sym w.if-is_none-2.ensures
+          ∙ not_none (copied_none w.net_at.result (w.net_at.ensures ∙ ap (λ n. net_of (netlist c.args.netlist.now) (pin_named c.args.netlist.now (Pin c.in-Some.comp n))) long ∙ is_off c.args.netlist.now c.requires c.args.low.now c.args.high.now c.args.name.now c.in-Some.comp m g s)))
       | else-are_tied-via-else-are_tied w ↦
-        true≢false (sym (c.are_tied.ensures.1 (subst (λ n. AreTied c.args.netlist.now c.args.low.now c.args.high.now c.in-Some.comp n) (sym long) (are_tied c.args.netlist.now c.requires c.args.low.now c.args.high.now c.args.name.now c.in-Some.comp m g s))) ∙ w.if-are_tied.false)
+          true≢false (sym (c.are_tied.ensures.1 (subst (λ n. AreTied c.args.netlist.now c.args.low.now c.args.high.now c.in-Some.comp n) (sym long) (are_tied c.args.netlist.now c.requires c.args.low.now c.args.high.now c.args.name.now c.in-Some.comp m g s))) ∙ w.if-are_tied.false)
     ]
