@@ -10,12 +10,12 @@ use Rattle.eco_net.specs.declared.rows.NetRow.{NetRow}
 use Rattle.eco_net.specs.declared.rows.CompRow.{CompRow}
 use Rattle.eco_net.specs.declared.rows.TopRow.{TopRow}
 use Rattle.eco_net.specs.Netlist.{Name, name_cmp}
-use Rattle.eco_net.specs.Listing.{Listing, netlist, component, top, pins, kind_of, with_joint, with_tie}
+use Rattle.eco_net.specs.Listing.{Listing, netlist, component, top, pins, kind_of, rejoined, with_tie}
 use Rattle.eco_net.specs.Kept.{IsKind, IsRow, IsIndexOf, IsIndexed}
 use Rattle.eco_net.proofs.Basics.{same_Some, not_None}
 use Rattle.eco_net.proofs.Places.{push_cases, apart_nil, apart_push, index_nil, index_push, apart_index, not_a_row}
 
-abbrev nothing : Listing
+abbrev pub nothing : Listing
 nothing = record { nets = []; comps = []; tops = []; reserved = [] }
 
 pub indexed_nothing : IsIndexed nothing empty empty empty
@@ -132,15 +132,15 @@ module _ (L : Listing) (a b c : FinMap name_cmp ℕ) (is : IsIndexed L a b c) wh
 
 -- ---- rows that change in place
 
-pub joint_names : (rows : List CompRow) (c k n : ℕ) → map (λ r. r.name) (with_joint rows c k n) ≡ map (λ r. r.name) rows
-joint_names [] c k n = refl
-joint_names (r ∷ rows) zero k n = refl
-joint_names (r ∷ rows) (suc c) k n = ap (λ ns. r.name ∷ ns) (joint_names rows c k n)
+pub joint_names : (rows : List CompRow) (c k : ℕ) (j : Option ℕ) → map (λ r. r.name) (rejoined rows c k j) ≡ map (λ r. r.name) rows
+joint_names [] c k j = refl
+joint_names (r ∷ rows) zero k j = refl
+joint_names (r ∷ rows) (suc c) k j = ap (λ ns. r.name ∷ ns) (joint_names rows c k j)
 
-pub joint_set : (rows : List CompRow) (c k n : ℕ) (r : CompRow) → slice_get rows c ≡ Some r → slice_set rows c (record r { joined = slice_set r.joined k (Some n) }) ≡ with_joint rows c k n
-joint_set [] c k n r e = absurd (not_None (sym e))
-joint_set (x ∷ rows) zero k n r e = ap (λ (y : CompRow). record y { joined = slice_set y.joined k (Some n) } ∷ rows) (sym (same_Some e))
-joint_set (x ∷ rows) (suc c) k n r e = ap (λ ys. x ∷ ys) (joint_set rows c k n r e)
+pub joint_set : (rows : List CompRow) (c k : ℕ) (j : Option ℕ) (r : CompRow) → slice_get rows c ≡ Some r → slice_set rows c (record r { joined = slice_set r.joined k j }) ≡ rejoined rows c k j
+joint_set [] c k j r e = absurd (not_None (sym e))
+joint_set (x ∷ rows) zero k j r e = ap (λ (y : CompRow). record y { joined = slice_set y.joined k j } ∷ rows) (sym (same_Some e))
+joint_set (x ∷ rows) (suc c) k j r e = ap (λ ys. x ∷ ys) (joint_set rows c k j r e)
 
 pub tie_names : (rows : List NetRow) (n : ℕ) → map (λ r. r.name) (with_tie rows n) ≡ map (λ r. r.name) rows
 tie_names [] n = refl
@@ -152,47 +152,56 @@ tie_set [] n r e = absurd (not_None (sym e))
 tie_set (x ∷ rows) zero r e = ap (λ (y : NetRow). record y { tie = true } ∷ rows) (sym (same_Some e))
 tie_set (x ∷ rows) (suc n) r e = ap (λ ys. x ∷ ys) (tie_set rows n r e)
 
--- a place of a list with one change
-set_known : (js : List (Option ℕ)) (k n i l m : ℕ) → ((l i : ℕ) → slice_get js l ≡ Some (Some i) → i < m) → n < m → slice_get (slice_set js k (Some n)) l ≡ Some (Some i) → i < m
-set_known [] k n i l m h g e = absurd (not_None (sym e))
-set_known (j ∷ js) zero n i zero m h g e = let s : n ≡ i = same_Some (same_Some e) in omega (arith, g, s)
-set_known (j ∷ js) zero n i (suc l) m h g e = h (suc l) i e
-set_known (j ∷ js) (suc k) n i zero m h g e = h 0 i e
-set_known (j ∷ js) (suc k) n i (suc l) m h g e = set_known js k n i l m (λ l i. h (suc l) i) g e
+-- a net that is known, if it is one
+abbrev pub Within : Option ℕ → ℕ → Type 0
+Within None m = Unit {0}
+Within (Some n) m = n < m
 
-row_joined : (m k n : ℕ) (r : CompRow) → n < m → IsRow m r → IsRow m (record r { joined = slice_set r.joined k (Some n) })
-row_joined m k n r g row = record {
+within : (j : Option ℕ) (i m : ℕ) → Within j m → j ≡ Some i → i < m
+within None i m h e = absurd (not_None (sym e))
+within (Some n) i m h e = subst (λ k. k < m) (same_Some e) h
+
+-- a place of a list with one change
+set_known : (js : List (Option ℕ)) (k : ℕ) (new : Option ℕ) (i l m : ℕ) → ((l i : ℕ) → slice_get js l ≡ Some (Some i) → i < m) → Within new m → slice_get (slice_set js k new) l ≡ Some (Some i) → i < m
+set_known [] k new i l m h g e = absurd (not_None (sym e))
+set_known (j ∷ js) zero new i zero m h g e = within new i m g (same_Some e)
+set_known (j ∷ js) zero new i (suc l) m h g e = h (suc l) i e
+set_known (j ∷ js) (suc k) new i zero m h g e = h 0 i e
+set_known (j ∷ js) (suc k) new i (suc l) m h g e = set_known js k new i l m (λ l i. h (suc l) i) g e
+
+row_joined : (m k : ℕ) (j : Option ℕ) (r : CompRow) → Within j m → IsRow m r → IsRow m (record r { joined = slice_set r.joined k j })
+row_joined m k j r g row = record {
   kind = row.kind;
-  each_pin = length-set r.joined k (Some n) ∙ row.each_pin;
-  known = λ l i e. set_known r.joined k n i l m row.known g e;
+  each_pin = length-set r.joined k j ∙ row.each_pin;
+  known = λ l i e. set_known r.joined k j i l m row.known g e;
 }
 
-joint_rows : (rows : List CompRow) (c k n m : ℕ) → n < m → ((c : ℕ) (r : CompRow) → slice_get rows c ≡ Some r → IsRow m r) → (d : ℕ) (r : CompRow) → slice_get (with_joint rows c k n) d ≡ Some r → IsRow m r
-joint_rows [] c k n m g h d r e = absurd (not_None (sym e))
-joint_rows (x ∷ rows) zero k n m g h zero r e = subst (IsRow m) (same_Some e) (row_joined m k n x g (h 0 x refl))
-joint_rows (x ∷ rows) zero k n m g h (suc d) r e = h (suc d) r e
-joint_rows (x ∷ rows) (suc c) k n m g h zero r e = h 0 r e
-joint_rows (x ∷ rows) (suc c) k n m g h (suc d) r e = joint_rows rows c k n m g (λ c. h (suc c)) d r e
+joint_rows : (rows : List CompRow) (c k : ℕ) (j : Option ℕ) (m : ℕ) → Within j m → ((c : ℕ) (r : CompRow) → slice_get rows c ≡ Some r → IsRow m r) → (d : ℕ) (r : CompRow) → slice_get (rejoined rows c k j) d ≡ Some r → IsRow m r
+joint_rows [] c k j m g h d r e = absurd (not_None (sym e))
+joint_rows (x ∷ rows) zero k j m g h zero r e = subst (IsRow m) (same_Some e) (row_joined m k j x g (h 0 x refl))
+joint_rows (x ∷ rows) zero k j m g h (suc d) r e = h (suc d) r e
+joint_rows (x ∷ rows) (suc c) k j m g h zero r e = h 0 r e
+joint_rows (x ∷ rows) (suc c) k j m g h (suc d) r e = joint_rows rows c k j m g (λ c. h (suc c)) d r e
 
-pub joint_length : (rows : List CompRow) (c k n : ℕ) → length (with_joint rows c k n) ≡ length rows
-joint_length rows c k n = sym (length-map (with_joint rows c k n) (λ r. r.name)) ∙ ap length (joint_names rows c k n) ∙ length-map rows (λ r. r.name)
+pub joint_length : (rows : List CompRow) (c k : ℕ) (j : Option ℕ) → length (rejoined rows c k j) ≡ length rows
+joint_length rows c k j = sym (length-map (rejoined rows c k j) (λ r. r.name)) ∙ ap length (joint_names rows c k j) ∙ length-map rows (λ r. r.name)
 
 pub tie_length : (rows : List NetRow) (n : ℕ) → length (with_tie rows n) ≡ length rows
 tie_length rows n = sym (length-map (with_tie rows n) (λ r. r.name)) ∙ ap length (tie_names rows n) ∙ length-map rows (λ r. r.name)
 
 module _ (L : Listing) (a b c : FinMap name_cmp ℕ) (is : IsIndexed L a b c) where
-  pub joint_put : (d k n : ℕ) → n < length L.nets → IsIndexed (record L { comps = with_joint L.comps d k n }) a b c
-  joint_put d k n g =
-      let index : IsIndexOf (map (λ r. r.name) (with_joint L.comps d k n)) b = subst (λ ns. IsIndexOf ns b) (sym (joint_names L.comps d k n)) is.comps in
+  pub joint_put : (d k : ℕ) (j : Option ℕ) → Within j (length L.nets) → IsIndexed (record L { comps = rejoined L.comps d k j }) a b c
+  joint_put d k j g =
+      let index : IsIndexOf (map (λ r. r.name) (rejoined L.comps d k j)) b = subst (λ ns. IsIndexOf ns b) (sym (joint_names L.comps d k j)) is.comps in
       record {
         listing = record {
           nets = is.listing.nets;
           comps = apart_index _ _ index;
           tops = is.listing.tops;
-          rows = joint_rows L.comps d k n (length L.nets) g is.listing.rows;
+          rows = joint_rows L.comps d k j (length L.nets) g is.listing.rows;
           ends = is.listing.ends;
           few_nets = is.listing.few_nets;
-          few_comps = omega (arith, joint_length L.comps d k n, is.listing.few_comps);
+          few_comps = omega (arith, joint_length L.comps d k j, is.listing.few_comps);
           few_tops = is.listing.few_tops;
         };
         nets = is.nets;

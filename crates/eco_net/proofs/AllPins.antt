@@ -1,5 +1,5 @@
 -- All pins of a listing, in order
-use Rattle.std.proofs.Common.{◌≡◌, ℕ, zero, suc, ◌+◌, ◌<◌, ◌≤◌, Bool, true, false, cond, List, [], ◌∷◌, ◌++◌, map, length, Option, Some, None, refl, sym, ap, ap₂, ◌∙◌, subst, arith, slice_get, inl, inr, ⊎_elim, ◌⊎◌, true≢false, Less, Equal, nat_cmp}
+use Rattle.std.proofs.Common.{◌≡◌, ℕ, zero, suc, ◌+◌, ◌<◌, ◌≤◌, Bool, true, false, cond, List, [], ◌∷◌, ◌++◌, map, length, Option, Some, None, refl, sym, ap, ap₂, ◌∙◌, subst, arith, slice_get, inl, inr, ⊎_elim, ◌⊎◌, true≢false, Less, Equal, Ordering, nat_cmp}
 use Rattle.std.specs.Ordering.{ordering_then}
 use Rattle.std.specs.List.{filter, range_with_len, AllByRecursion}
 use Rattle.std.specs.List.Sorted.{IsStrictlySortedBy}
@@ -7,6 +7,7 @@ use Rattle.std.proofs.lemmas.Bool.{eqb-true, eq-eqb}
 use Rattle.std.specs.Cmp.{tied_itself, nat_cmp_total}
 use Rattle.std.proofs.lemmas.Bool.Decides.{nat_tests}
 use Rattle.eco_net.specs.declared.rows.CompRow.{CompRow}
+use Rattle.eco_net.specs.declared.ids.CompId.{CompId}
 use Rattle.eco_net.specs.declared.ids.PinRef.{PinRef}
 use Rattle.eco_net.specs.declared.ids.PinRef.TheVariants.{Top, Pin}
 use Rattle.eco_net.specs.Listing.{Listing, pins, IsKnownPin, HasPin}
@@ -73,15 +74,23 @@ has_comp c (x ∷ rows) p h = ⊎_elim
     record { offset = suc w.offset; row = w.row; at = w.at; number = w.number; within = w.within; is = w.is ∙ ap (λ d. Pin (record { 0 = d }) w.number) z })
     (split_has (pins_to c (length (pins x))) (comp_pins (c + 1) rows) p h)
 
-pub has_known : (L : Listing) (p : PinRef) → IsKnownPin L p → Has (all_pins L) p
-has_known L (Top t) h = has_append_left (tops_to (length L.tops)) _ _ (has_map (λ t. Top (record { 0 = t })) (range_with_len 0 (length L.tops)) t.0 (has_below (length L.tops) t.0 h))
-has_known L (Pin c k) h = go (slice_get L.comps c.0) refl h
+pub has_top : (L : Listing) (t : ℕ) → t < length L.tops → Has (tops_to (length L.tops)) (Top (record { 0 = t }))
+has_top L t h = has_map (λ t. Top (record { 0 = t })) (range_with_len 0 (length L.tops)) t (has_below (length L.tops) t h)
+
+pub has_pin : (L : Listing) (c : CompId) (k : ℕ) → HasPin (slice_get L.comps c.0) k → Has (comp_pins 0 L.comps) (Pin c k)
+has_pin L c k h = go (slice_get L.comps c.0) refl h
   where
-    go : (o : Option CompRow) → slice_get L.comps c.0 ≡ o → HasPin o k → Has (all_pins L) (Pin c k)
+    go : (o : Option CompRow) → slice_get L.comps c.0 ≡ o → HasPin o k → Has (comp_pins 0 L.comps) (Pin c k)
     go None e g = absurd g
-    go (Some r) e g =
-        let z : 0 + c.0 ≡ c.0 = omega arith in
-        has_append_right (tops_to (length L.tops)) _ _ (subst (λ d. Has (comp_pins 0 L.comps) (Pin (record { 0 = d }) k)) z (comp_has 0 L.comps c.0 k r e g))
+    go (Some r) e g = let z : 0 + c.0 ≡ c.0 = omega arith in subst (λ d. Has (comp_pins 0 L.comps) (Pin (record { 0 = d }) k)) z (comp_has 0 L.comps c.0 k r e g)
+
+-- a component's pin is no top pin
+pub comp_pin : (L : Listing) (p : PinRef) → Has (comp_pins 0 L.comps) p → (c : CompId) × (k : ℕ) × (p ≡ Pin c k)
+comp_pin L p h = let w = has_comp 0 L.comps p h in (record { 0 = 0 + w.offset }, w.number, w.is)
+
+pub has_known : (L : Listing) (p : PinRef) → IsKnownPin L p → Has (all_pins L) p
+has_known L (Top t) h = has_append_left (tops_to (length L.tops)) _ _ (has_top L t.0 h)
+has_known L (Pin c k) h = has_append_right (tops_to (length L.tops)) _ _ (has_pin L c k h)
 
 pub known_has : (L : Listing) (p : PinRef) → Has (all_pins L) p → IsKnownPin L p
 known_has L p h = ⊎_elim
@@ -103,12 +112,12 @@ all_at P [] h x i = absurd i
 all_at P (y ∷ xs) h x (inl e) = subst P e h.0
 all_at P (y ∷ xs) h x (inr i) = all_at P xs h.1 x i
 
-pub sorted_append : (xs ys : List PinRef) → IsStrictlySortedBy pin_order xs → IsStrictlySortedBy pin_order ys → ((x y : PinRef) → Has xs x → Has ys y → pin_order x y ≡ Less) → IsStrictlySortedBy pin_order (xs ++ ys)
+pub sorted_append : {A : Type 0} (R : A → A → Ordering) (xs ys : List A) → IsStrictlySortedBy R xs → IsStrictlySortedBy R ys → ((x y : A) → Has xs x → Has ys y → R x y ≡ Less) → IsStrictlySortedBy R (xs ++ ys)
 unfolding IsStrictlySortedBy
-sorted_append [] ys a b h = b
-sorted_append (x ∷ xs) ys a b h = (
-  all_from (λ y. pin_order x y ≡ Less) (xs ++ ys) (λ y i. ⊎_elim (λ j. all_at (λ y. pin_order x y ≡ Less) xs a.0 y j) (λ j. h x y (inl refl) j) (split_has xs ys y i)),
-  sorted_append xs ys a.1 b (λ z y i j. h z y (inr i) j),
+sorted_append R [] ys a b h = b
+sorted_append R (x ∷ xs) ys a b h = (
+  all_from (λ y. R x y ≡ Less) (xs ++ ys) (λ y i. ⊎_elim (λ j. all_at (λ y. R x y ≡ Less) xs a.0 y j) (λ j. h x y (inl refl) j) (split_has xs ys y i)),
+  sorted_append R xs ys a.1 b (λ z y i j. h z y (inr i) j),
 )
 
 sorted_range : (f : ℕ → PinRef) → ((i j : ℕ) → i < j → pin_order (f i) (f j) ≡ Less) → (a n : ℕ) → IsStrictlySortedBy pin_order (map f (range_with_len a n))
@@ -134,10 +143,10 @@ pin_less c i j h = ap₂ (λ o p. ordering_then o (ordering_then p Equal)) (tied
 comp_less : (c d i j : ℕ) → c < d → pin_order (Pin (record { 0 = c }) i) (Pin (record { 0 = d }) j) ≡ Less
 comp_less c d i j h = ap (λ o. ordering_then o (ordering_then (nat_cmp i j) Equal)) (less_nat c d h)
 
-comps_sorted : (c : ℕ) (rows : List CompRow) → IsStrictlySortedBy pin_order (comp_pins c rows)
+pub comps_sorted : (c : ℕ) (rows : List CompRow) → IsStrictlySortedBy pin_order (comp_pins c rows)
 unfolding IsStrictlySortedBy
 comps_sorted c [] = tt
-comps_sorted c (r ∷ rows) = sorted_append (pins_to c (length (pins r))) (comp_pins (c + 1) rows)
+comps_sorted c (r ∷ rows) = sorted_append pin_order (pins_to c (length (pins r))) (comp_pins (c + 1) rows)
     (sorted_range (λ k. Pin (record { 0 = c }) k) (λ i j h. pin_less c i j h) 0 (length (pins r)))
     (comps_sorted (c + 1) rows)
     (λ x y i j.
@@ -146,10 +155,13 @@ comps_sorted c (r ∷ rows) = sorted_append (pins_to c (length (pins r))) (comp_
     let g : c < (c + 1) + w.offset = omega arith in
     ap₂ pin_order (sym v.2) w.is ∙ comp_less c ((c + 1) + w.offset) v.0 w.number g)
 
+pub tops_sorted : (L : Listing) → IsStrictlySortedBy pin_order (tops_to (length L.tops))
+tops_sorted L = sorted_range (λ t. Top (record { 0 = t })) (λ i j h. top_less i j h) 0 (length L.tops)
+
 -- all pins stand in order
 pub pins_sorted : (L : Listing) → IsStrictlySortedBy pin_order (all_pins L)
-pins_sorted L = sorted_append (tops_to (length L.tops)) (comp_pins 0 L.comps)
-    (sorted_range (λ t. Top (record { 0 = t })) (λ i j h. top_less i j h) 0 (length L.tops))
+pins_sorted L = sorted_append pin_order (tops_to (length L.tops)) (comp_pins 0 L.comps)
+    (tops_sorted L)
     (comps_sorted 0 L.comps)
     (λ x y i j.
     let v = has_of_map (λ t. Top (record { 0 = t })) (range_with_len 0 (length L.tops)) x i in

@@ -1,6 +1,7 @@
 -- What an index has at a name, and after an insert
 use Rattle.std.proofs.Common.{◌≡◌, ℕ, Bool, true, false, cond, List, [], ◌∷◌, Option, Some, Vec, refl, sym, ap, ◌∙◌, true≢false, Ordering, Less, Equal, Greater}
 use Rattle.std.specs.Ordering.{eq_by_cmp, match_ordering, is_eq}
+use Rattle.std.specs.List.{AllZip}
 use Rattle.std.specs.Map.{lookup}
 use Rattle.std.specs.BTreeMap.{is_at, insert_entry}
 use Rattle.std.specs.Cmp.Lexicographic.{nat_list_cmp_total}
@@ -46,3 +47,10 @@ pub place_given : {Z : Type 0} (es : List (Vec ℕ Z × ℕ)) (k : Vec ℕ Z) (v
 place_given es k v = same_map nat_list_cmp_total exact_bytes _ _ (λ q.
     get-from_entries nat_list_cmp_total _ q ∙ found_after es k v q
     ∙ sym (get-insert nat_list_cmp_total (from_entries (by_bytes es)) k.items v q ∙ ap (cond (eq_by_cmp name_cmp q k.items) (Some v)) (get-from_entries nat_list_cmp_total (by_bytes es) q)))
+
+-- entries of the same bytes and places
+pub same_entries : {Z : Type 0} (R : Vec ℕ Z × ℕ → Vec ℕ Z × ℕ → Type 0) → ((d e : Vec ℕ Z × ℕ) → R d e → (e.0.items ≡ d.0.items) × (e.1 ≡ d.1)) → (ds es : List (Vec ℕ Z × ℕ)) → AllZip R ds es → by_bytes es ≡ by_bytes ds
+same_entries R h [] [] z = refl
+same_entries R h [] (e ∷ es) z = absurd z
+same_entries R h (d ∷ ds) [] z = absurd z
+same_entries R h (d ∷ ds) (e ∷ es) z = let s = h d e z.0 in λ i. (s.0 i, s.1 i) ∷ same_entries R h ds es z.1 i

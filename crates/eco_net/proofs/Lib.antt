@@ -13,7 +13,11 @@ pub mod Places
 pub mod MasterPins
 pub mod Added
 pub mod Named
+pub mod Changed
 pub mod PinNames
+pub mod Effects
+pub mod Numbers
+pub mod Whole
 pub mod AllPins
 pub mod DriverNames
 pub mod ByNets
@@ -26,6 +30,8 @@ pub mod Orders
 pub mod Rotated
 pub mod Ranges
 pub mod KeyNames
+pub mod SinkNames
+pub mod SeenNames
 pub mod Valued
 mod Examples
 mod Loops

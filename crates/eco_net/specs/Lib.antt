@@ -8,8 +8,9 @@ pub mod Depth
 pub mod Laws
 pub mod Index
 pub mod Listing
-pub mod PinOrder
+pub mod Changes
 pub mod ByNumber
+pub mod PinOrder
 pub mod Kept
 pub mod Pins
 pub mod Gates
@@ -18,4 +19,6 @@ pub mod Search
 pub mod LevelsOf
 pub mod Rings
 pub mod KeysOf
+pub mod Seen
+pub mod SinksOf
 pub mod ValuesOf

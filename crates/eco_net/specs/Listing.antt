@@ -116,11 +116,17 @@ HasOwnPins (GivenBox pins) = IsDistinct (eq_by_cmp name_cmp) (map (λ p. p.name)
 
 -- ---- changes
 
--- a pin of a component on another net
+-- a pin of a component on another net, or on none
+abbrev pub rejoined : List CompRow → ℕ → ℕ → Option ℕ → List CompRow
+rejoined [] c pin net = []
+rejoined (r ∷ rows) zero pin net = record r { joined = slice_set r.joined pin net } ∷ rows
+rejoined (r ∷ rows) (suc c) pin net = r ∷ rejoined rows c pin net
+
 abbrev pub with_joint : List CompRow → ℕ → ℕ → ℕ → List CompRow
-with_joint [] c pin net = []
-with_joint (r ∷ rows) zero pin net = record r { joined = slice_set r.joined pin (Some net) } ∷ rows
-with_joint (r ∷ rows) (suc c) pin net = r ∷ with_joint rows c pin net
+with_joint rows c pin net = rejoined rows c pin (Some net)
+
+abbrev pub without_joint : List CompRow → ℕ → ℕ → List CompRow
+without_joint rows c pin = rejoined rows c pin None
 
 abbrev pub with_tie : List NetRow → ℕ → List NetRow
 with_tie [] n = []

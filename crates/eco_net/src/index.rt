@@ -26,7 +26,7 @@ impl Model for NameIndex {
 }
 
 impl NameIndex {
-    ghost use Rattle.std.specs.Prelude.{◌≡◌, OnOk, OnErr};
+    ghost use Rattle.std.specs.Prelude.{◌≡◌, IfOk, OnOk, OnErr};
     ghost use Rattle.std.specs.FinMap as map;
 
     /// No names.
@@ -52,5 +52,14 @@ impl NameIndex {
     {
         self.places.insert(name, place)?;
         Ok(())
+    }
+
+    /// The same places of the same names.
+    pub(crate) fn copy(&self) -> Result<NameIndex, Memory>
+        ensures { IfOk result (λ index. index ≡ self.now) }
+    {
+        Ok(NameIndex {
+            places: self.places.clone()?,
+        })
     }
 }

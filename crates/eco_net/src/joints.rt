@@ -52,4 +52,21 @@ impl Joints {
     {
         self.nets[pin] = Some(net);
     }
+
+    /// Takes a pin off its net.
+    pub(crate) fn take_off(&mut self, pin: usize)
+        requires { pin < length self.old }
+        ensures { self.new ≡ slice_set self.old pin None }
+    {
+        self.nets[pin] = None;
+    }
+
+    /// The same nets of the same pins.
+    pub(crate) fn copy(&self, alloc: Global) -> Result<Joints, Memory>
+        ensures { IfOk result (λ j. j ≡ self.now) }
+    {
+        Ok(Joints {
+            nets: Vec::from_slice(alloc, &self.nets)?,
+        })
+    }
 }

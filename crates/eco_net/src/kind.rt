@@ -1,10 +1,11 @@
 //! What a component is: a gate, or a box with pins.
 
-ghost use Rattle.std.specs.Prelude.{◌≡◌, ◌<◌, Some, length, slice_get};
+ghost use Rattle.std.specs.Prelude.{◌≡◌, ◌<◌, Some, length, slice_get, IfOk};
 ghost use Rattle.std.specs.Option.{option_map};
 
-use eco_func::{MasterFn, Name, Table};
+use eco_func::{MasterFn, Memory, Name, Table};
 use eco_text::Dir;
+use std::alloc::Global;
 use std::marker::Model;
 
 /// A pin of a box.
@@ -29,8 +30,20 @@ impl Model for BoxPins {
     ghost view = { λ b. b.pins.items };
 }
 
+impl BoxPin {
+    /// The same pin.
+    pub(crate) fn copy(&self, alloc: Global) -> Result<BoxPin, Memory>
+        ensures { IfOk result (λ p. p ≡ self.now) }
+    {
+        Ok(BoxPin {
+            name: self.name.copy(alloc)?,
+            dir: self.dir,
+        })
+    }
+}
+
 impl BoxPins {
-    ghost use Rattle.std.specs.Prelude.{◌≡◌};
+    ghost use Rattle.std.specs.Prelude.{◌≡◌, IfOk};
 
     /// The box pins of a list, in its order.
     pub fn of(pins: Vec<BoxPin>) -> BoxPins
@@ -45,6 +58,26 @@ impl BoxPins {
     {
         &self.pins
     }
+
+    /// The same pins.
+    pub fn copy(&self, alloc: Global) -> Result<BoxPins, Memory>
+        ensures { IfOk result (λ pins. pins ≡ self.now) }
+    {
+        Ok(BoxPins {
+            pins: copied_pins(alloc, &self.pins)?,
+        })
+    }
+}
+
+/// The same pins.
+fn copied_pins(alloc: Global, pins: &[BoxPin]) -> Result<Vec<BoxPin>, Memory>
+    ensures { IfOk result (λ copied. copied.items ≡ pins.now) }
+{
+    let mut copied = Vec::with_capacity(alloc, pins.len())?;
+    for pin in pins {
+        copied.push(pin.copy(alloc)?)?;
+    }
+    Ok(copied)
 }
 
 /// What a pin of a component is for.
@@ -79,6 +112,16 @@ impl Kind {
         match self {
             Kind::Gate(master) => master.inputs().len() + master.outputs().len(),
             Kind::Boxed(pins) => pins.as_slice().len(),
+        }
+    }
+
+    /// The same kind.
+    pub fn copy(&self, alloc: Global) -> Result<Kind, Memory>
+        ensures { IfOk result (λ k. k ≡ self.now) }
+    {
+        match self {
+            Kind::Gate(master) => Ok(Kind::Gate(master.copy(alloc)?)),
+            Kind::Boxed(pins) => Ok(Kind::Boxed(pins.copy(alloc)?)),
         }
     }
 

@@ -4,6 +4,7 @@
 //! added. The specifications speak of names; a listing says which name each number has.
 #![tactic(auto)]
 
+mod copies;
 mod cut;
 mod gates;
 mod ids;
@@ -14,10 +15,12 @@ mod laws;
 mod levels;
 mod maker;
 mod netlist;
+mod observables;
 mod pins;
 mod reading;
 mod rows;
 mod search;
+mod sinks;
 mod walk;
 
 pub use crate::cut::{CutKey, CutValues};

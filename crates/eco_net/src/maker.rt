@@ -38,13 +38,15 @@ impl Model for NetlistMaker {
 impl NetlistMaker {
     ghost use Rattle.std.specs.Prelude.{◌≡◌, ◌<◌, [], ◌∷◌, ◌++◌, None, false, length, replicate, IfOk, OnOk, OnErr};
     ghost use Rattle.std.specs.FinMap.{get};
-    ghost use Rattle.eco_net.specs.Listing.{Listing, netlist, kind_of, HasOwnPins, IsKnownPin, with_joint, with_tie};
+    ghost use Rattle.eco_net.specs.Listing.{Listing, netlist, kind_of, HasOwnPins, IsKnownPin, net_name, pin_named, with_joint, without_joint, with_tie};
+    ghost use Rattle.eco_net.specs.Changes.{empty_netlist, with_net, with_comp, with_top, with_tie_net, with_reserved, with_pin_on, with_pin_off};
     ghost use Rattle.eco_net.specs.Netlist.{pins_of};
     ghost use Rattle.eco_net.specs.declared.ids.PinRef.{PinRef};
 
     /// A netlist of nothing.
     pub fn new(alloc: Global) -> Result<NetlistMaker, Memory>
-        ensures { IfOk result (λ m. m ≡ record { nets = []; comps = []; tops = []; reserved = [] }) }
+        ensures rows { IfOk result (λ m. m ≡ record { nets = []; comps = []; tops = []; reserved = [] }) }
+        ensures named { IfOk result (λ m. netlist m ≡ empty_netlist) }
     {
         Ok(NetlistMaker {
             nets: Vec::new(alloc),
@@ -68,6 +70,7 @@ impl NetlistMaker {
         requires few { length self.old.nets < 9000000 }
         ensures number { IfOk result (λ n. n.0 ≡ length self.old.nets) }
         ensures ok { OnOk result (self.new ≡ record self.old { nets = self.old.nets ++ record { name = name.now; supply = supply; tie = false } ∷ [] }) }
+        ensures named { OnOk result (netlist self.new ≡ with_net (netlist self.old) name.now supply) }
         ensures err { OnErr result (self.new ≡ self.old) }
     {
         let number = self.nets.len() as u32;
@@ -96,6 +99,7 @@ impl NetlistMaker {
         requires few { length self.old.comps < 1100000 }
         ensures number { IfOk result (λ c. c.0 ≡ length self.old.comps) }
         ensures ok { OnOk result (self.new ≡ record self.old { comps = self.old.comps ++ record { name = name.now; kind = kind; place = place; joined = replicate (length (pins_of (kind_of kind))) None } ∷ [] }) }
+        ensures named { OnOk result (netlist self.new ≡ with_comp (netlist self.old) name.now (kind_of kind) place) }
         ensures err { OnErr result (self.new ≡ self.old) }
     {
         let number = self.comps.len() as u32;
@@ -126,6 +130,7 @@ impl NetlistMaker {
         requires few { length self.old.tops < 1000000 }
         ensures number { IfOk result (λ t. t.0 ≡ length self.old.tops) }
         ensures ok { OnOk result (self.new ≡ record self.old { tops = self.old.tops ++ record { name = name.now; dir = dir; net = net.0 } ∷ [] }) }
+        ensures named { OnOk result (netlist self.new ≡ with_top (netlist self.old) name.now dir (net_name self.old.nets net.0)) }
         ensures err { OnErr result (self.new ≡ self.old) }
     {
         let number = self.tops.len() as u32;
@@ -138,11 +143,12 @@ impl NetlistMaker {
         Ok(TopId(number))
     }
 
-    /// Puts a pin on a known net.
+    /// Puts a pin on a known net, whichever net it was on before.
     pub fn join(&mut self, comp: CompId, pin: u32, net: NetId) -> Result<(), Memory>
         requires known_pin { IsKnownPin self.old (PinRef.Pin comp pin) }
         requires known_net { net.0 < length self.old.nets }
         ensures ok { OnOk result (self.new ≡ record self.old { comps = with_joint self.old.comps comp.0 pin net.0 }) }
+        ensures named { OnOk result (netlist self.new ≡ with_pin_on (netlist self.old) (pin_named self.old (PinRef.Pin comp pin)) (net_name self.old.nets net.0)) }
         ensures err { OnErr result (self.new ≡ self.old) }
     {
         let row = &mut self.comps[comp.0 as usize];
@@ -150,10 +156,21 @@ impl NetlistMaker {
         Ok(())
     }
 
+    /// Takes a pin off its net, if it is on one. It takes no memory.
+    pub fn part(&mut self, comp: CompId, pin: u32)
+        requires { IsKnownPin self.old (PinRef.Pin comp pin) }
+        ensures rows { self.new ≡ record self.old { comps = without_joint self.old.comps comp.0 pin } }
+        ensures named { netlist self.new ≡ with_pin_off (netlist self.old) (pin_named self.old (PinRef.Pin comp pin)) }
+    {
+        let row = &mut self.comps[comp.0 as usize];
+        row.joined.take_off(pin as usize);
+    }
+
     /// Marks a tie net.
     pub fn mark_tie(&mut self, net: NetId)
         requires { net.0 < length self.old.nets }
-        ensures { self.new ≡ record self.old { nets = with_tie self.old.nets net.0 } }
+        ensures rows { self.new ≡ record self.old { nets = with_tie self.old.nets net.0 } }
+        ensures named { netlist self.new ≡ with_tie_net (netlist self.old) (net_name self.old.nets net.0) }
     {
         let row = &mut self.nets[net.0 as usize];
         row.tie = true;
@@ -162,6 +179,7 @@ impl NetlistMaker {
     /// Marks a name that stands for a component elsewhere, as that of a spare in the stock.
     pub fn reserve_name(&mut self, alloc: Global, name: &[u8]) -> Result<(), Memory>
         ensures ok { OnOk result (self.new ≡ record self.old { reserved = self.old.reserved ++ name.now ∷ [] }) }
+        ensures named { OnOk result (netlist self.new ≡ with_reserved (netlist self.old) name.now) }
         ensures err { OnErr result (self.new ≡ self.old) }
     {
         let row = Name::of(alloc, name)?;

@@ -42,7 +42,8 @@ impl NetlistMaker {
 
     /// The netlist that was listed.
     pub fn finish(self, alloc: Global) -> Result<Netlist, Memory>
-        ensures { IfOk result (λ n. n ≡ self) }
+        ensures listed { IfOk result (λ n. n ≡ self) }
+        ensures whole { IfOk result (λ n. IsWhole (netlist n)) }
     {
         let _listing = self.net_count();
         let on_net = pins_by_net(alloc, &self)?;
@@ -74,32 +75,23 @@ impl Netlist {
         ensures comps { result.comps ≡ length self.now.comps }
         ensures tops { result.tops ≡ length self.now.tops }
         ensures listing { IsListing self.now }
+        ensures whole { IsWhole (netlist self.now) }
     {
-        Counts {
-            nets: self.listed.net_count(),
-            comps: self.listed.comp_count(),
-            tops: self.listed.top_count(),
-        }
+        self.listed.counts()
     }
 
     /// The net of a name.
     pub fn find_net(&self, name: &[u8]) -> Option<NetId>
         ensures { MatchOption result (get (netlist self.now).nets name.now ≡ None) (λ n. slice_get (net_names self.now) n.0 ≡ Some name.now) }
     {
-        match self.listed.net_number(name) {
-            Some(number) => Some(NetId(number)),
-            None => None,
-        }
+        self.listed.find_net(name)
     }
 
     /// The component of a name.
     pub fn find_comp(&self, name: &[u8]) -> Option<CompId>
         ensures { MatchOption result (get (netlist self.now).comps name.now ≡ None) (λ c. slice_get (comp_names self.now) c.0 ≡ Some name.now) }
     {
-        match self.listed.comp_number(name) {
-            Some(number) => Some(CompId(number)),
-            None => None,
-        }
+        self.listed.find_comp(name)
     }
 
     /// The name of a net.

@@ -7,12 +7,46 @@ ghost use Rattle.eco_net.specs.Listing.{Listing, netlist, net_names, comp_names,
 ghost use Rattle.eco_net.specs.Kept.{IsListing, IsRow};
 ghost use Rattle.eco_net.specs.ByNumber.{net_at, drives, end_of, joint_at};
 
-use crate::ids::PinRef;
+use crate::ids::{CompId, Counts, NetId, PinRef};
 use crate::maker::NetlistMaker;
 use crate::rows::{CompRow, NetRow, TopRow};
 use eco_text::Dir;
 
 impl NetlistMaker {
+    /// How many nets, components and top pins were added.
+    pub fn counts(&self) -> Counts
+        ensures nets { result.nets ≡ length self.now.nets }
+        ensures comps { result.comps ≡ length self.now.comps }
+        ensures tops { result.tops ≡ length self.now.tops }
+        ensures listing { IsListing self.now }
+    {
+        Counts {
+            nets: self.net_count(),
+            comps: self.comp_count(),
+            tops: self.top_count(),
+        }
+    }
+
+    /// The net of a name.
+    pub fn find_net(&self, name: &[u8]) -> Option<NetId>
+        ensures { MatchOption result (get (netlist self.now).nets name.now ≡ None) (λ n. slice_get (net_names self.now) n.0 ≡ Some name.now) }
+    {
+        match self.net_number(name) {
+            Some(number) => Some(NetId(number)),
+            None => None,
+        }
+    }
+
+    /// The component of a name.
+    pub fn find_comp(&self, name: &[u8]) -> Option<CompId>
+        ensures { MatchOption result (get (netlist self.now).comps name.now ≡ None) (λ c. slice_get (comp_names self.now) c.0 ≡ Some name.now) }
+    {
+        match self.comp_number(name) {
+            Some(number) => Some(CompId(number)),
+            None => None,
+        }
+    }
+
     /// How many nets there are.
     pub(crate) fn net_count(&self) -> u32
         ensures count { result ≡ length self.now.nets }

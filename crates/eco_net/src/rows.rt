@@ -1,9 +1,12 @@
 //! What was listed of each net, component and top pin.
 
+ghost use Rattle.std.specs.Prelude.{◌≡◌, IfOk};
+
 use crate::joints::Joints;
 use crate::kind::Kind;
-use eco_func::Name;
+use eco_func::{Memory, Name};
 use eco_text::{Dir, Point};
+use std::alloc::Global;
 
 /// A net: its name, its value if it is a supply, and whether it is a tie net.
 #[derive(Drop)]
@@ -28,4 +31,44 @@ pub struct TopRow {
     pub name: Name,
     pub dir: Dir,
     pub net: u32,
+}
+
+impl NetRow {
+    /// The same row.
+    pub(crate) fn copy(&self, alloc: Global) -> Result<NetRow, Memory>
+        ensures { IfOk result (λ r. r ≡ self.now) }
+    {
+        Ok(NetRow {
+            name: self.name.copy(alloc)?,
+            supply: self.supply,
+            tie: self.tie,
+        })
+    }
+}
+
+impl CompRow {
+    /// The same row.
+    pub(crate) fn copy(&self, alloc: Global) -> Result<CompRow, Memory>
+        ensures { IfOk result (λ r. r ≡ self.now) }
+    {
+        Ok(CompRow {
+            name: self.name.copy(alloc)?,
+            kind: self.kind.copy(alloc)?,
+            place: self.place,
+            joined: self.joined.copy(alloc)?,
+        })
+    }
+}
+
+impl TopRow {
+    /// The same row.
+    pub(crate) fn copy(&self, alloc: Global) -> Result<TopRow, Memory>
+        ensures { IfOk result (λ r. r ≡ self.now) }
+    {
+        Ok(TopRow {
+            name: self.name.copy(alloc)?,
+            dir: self.dir,
+            net: self.net,
+        })
+    }
 }
