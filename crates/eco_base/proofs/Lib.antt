@@ -21,3 +21,5 @@ pub mod GatePins
 pub mod Spares
 pub mod MovedPins
 pub mod FedPins
+pub mod PatchPins
+pub mod MovedNetlists

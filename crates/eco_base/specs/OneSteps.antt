@@ -1,8 +1,9 @@
 -- What the steps of `apply_one` find, one by one.
 use Rattle.std.specs.Prelude.{◌≡◌, ◌≢◌, ◌<◌, ◌⊎◌, ℕ, true, List, [], ◌∷◌, map, length, Option, Some, None}
-use Rattle.std.specs.List.{Contains, zip}
+use Rattle.std.specs.List.{Contains, zip, range_with_len}
 use Rattle.std.specs.FinMap.{get}
 use Rattle.eco_func.specs.declared.output.OutputFn.{OutputFn}
+use Rattle.eco_func.specs.Tables.{TruthTable}
 use Rattle.eco_func.specs.Masters.{MasterTables, is_master}
 use Rattle.eco_net.specs.declared.ids.CompId.{CompId}
 use Rattle.eco_net.specs.declared.ids.PinRef.TheVariants.{Pin}
@@ -14,7 +15,8 @@ use Rattle.eco_net.specs.Listing.{Listing, netlist, pin_named, kind_of, IsKnownP
 use Rattle.eco_base.specs.declared.one_gate.OneGate.{OneGate}
 use Rattle.eco_base.specs.NewNets.{can_be_new}
 use Rattle.eco_patch.specs.Joints.{Joint}
-use Rattle.eco_patch.specs.Insertion.{move_joint}
+use Rattle.eco_patch.specs.Insertion.{move_joint, input_pin, output_pin, with_moves, inserted}
+use Rattle.eco_patch.specs.Lone.{lone_order}
 use Rattle.eco_patch.specs.Realisation.{on_pin, feed_joints}
 use Rattle.eco_base.specs.OneGates.{feed_of, gate_of, move_of, IsOneSpare}
 
@@ -62,3 +64,15 @@ pub record IsKnownOrder (N : Netlist) (one : OneGate) : Type 0 where
 abbrev pub lone_joints : Name → Name → OneGate → List Name → Name → List Joint
 lone_joints low high one inputs output =
     move_joint (move_of one) ∷ on_pin one.spare output one.output ∷ feed_joints low high (gate_of one) one.spare (zip inputs (map feed_of one.feeds.items))
+
+-- a patch gate of this table as a master
+abbrev pub patch_tables : TruthTable → MasterTables
+patch_tables t = record { name = []; inputs = map input_pin (range_with_len 0 t.inputs); outputs = record { pin = output_pin; table = t } ∷ [] }
+
+-- the netlist with the new net and the pin on it
+abbrev pub moved_beside : Netlist → OneGate → Netlist
+moved_beside N one = with_moves N (lone_order (gate_of one) (move_of one))
+
+-- the netlist with the gate and the move, the spare beside it
+abbrev pub patched_beside : Netlist → OneGate → Netlist
+patched_beside N one = inserted [] (λ gate. None) N (lone_order (gate_of one) (move_of one))

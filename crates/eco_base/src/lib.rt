@@ -22,6 +22,8 @@ mod of_joints;
 mod one_fault;
 mod one_gate;
 mod overlay;
+mod patch_master;
+mod patched;
 mod pin_move;
 mod spare;
 mod standing;
