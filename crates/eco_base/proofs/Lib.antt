@@ -18,3 +18,10 @@ pub mod SameJoints
 pub mod Applying
 pub mod TiedTests
 pub mod Opening
+pub mod SpareTables
+pub mod GatePins
+pub mod Spares
+pub mod MovedPins
+pub mod FedPins
+pub mod PatchPins
+pub mod MovedNetlists
