@@ -37,7 +37,8 @@ pub(crate) fn patch_master(alloc: Global, table: Table) -> Result<MasterFn, Memo
     let name = Name::of(alloc, b"")?;
     let inputs = input_pins(alloc, table.inputs())?;
     let outputs = outputs(alloc, table)?;
-    match MasterFn::new(name, inputs, outputs) {
+    let made = MasterFn::new(alloc, name, inputs, outputs)?;
+    match made {
         Some(master) => Ok(master),
         None => unreachable!(),
     }
