@@ -10,5 +10,4 @@ pub mod Overlays
 pub mod Moving
 pub mod PinMoves
 pub mod NetChanges
-pub mod AppliedGates
 pub mod OneSteps

@@ -23,7 +23,6 @@ mod new_nets;
 mod of_joints;
 mod one_fault;
 mod one_gate;
-mod one_patch;
 mod overlay;
 mod patch_master;
 mod patched;
@@ -44,7 +43,6 @@ pub use crate::moving::move_joint;
 pub use crate::new_joint::NewJoint;
 pub use crate::one_fault::OneFault;
 pub use crate::one_gate::OneGate;
-pub use crate::one_patch::apply_one;
 pub use crate::overlay::Overlay;
 pub use crate::writer::{emit, emit_len};
 

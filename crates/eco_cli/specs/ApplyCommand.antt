@@ -12,7 +12,7 @@ use Rattle.eco_base.specs.declared.one_gate.OneGate.{OneGate}
 use Rattle.eco_base.specs.GateBases.{BaseParts, said_design}
 use Rattle.eco_base.specs.OneGates.{IsApplied}
 use Rattle.eco_base.specs.OpenedGates.{IsOpened, Opens}
-use Rattle.eco_base.specs.AppliedGates.{AppliesOne}
+use Rattle.eco_base.specs.OneAnswers.{AppliesOne}
 use Rattle.eco_cli.specs.CommandLine.{Listed, value_of}
 use Rattle.eco_cli.specs.ValueForms.{items_of}
 use Rattle.eco_cli.specs.declared.apply_words.ApplyWords.{ApplyWords}

@@ -12,9 +12,9 @@ returns-in-Ok-apply_one c =
           opened = opened;
           one = c.in-Ok-order_of.one;
           order = c.in-Ok-order_of.ensures;
-          output = applies.0;
+          output = applies.0.output;
           overlay = c.in-Ok-apply_one.overlay;
-          applied = applies.1;
+          applied = applies.3;
           written = rw (c.issued.ensures.text, c.issued.ensures.overlay) refl;
         },
         refl,
