@@ -9,3 +9,4 @@ pub mod Moving
 pub mod PinMoves
 pub mod NetChanges
 pub mod OneSteps
+pub mod OneAnswers

@@ -1,6 +1,7 @@
 //! Designs with some pins on other nets, and their texts.
 #![tactic(auto)]
 
+mod apply_gate;
 mod bytes;
 mod coming;
 mod embedded;
@@ -31,6 +32,7 @@ mod statement;
 mod stretch;
 mod writer;
 
+pub use crate::apply_gate::apply_one;
 pub use crate::fault::MoveFault;
 pub use crate::gate_base::GateBase;
 pub use crate::laws::{one_gate_applies, same_joints};
