@@ -25,3 +25,5 @@ pub mod MovedPins
 pub mod FedPins
 pub mod PatchPins
 pub mod MovedNetlists
+pub mod Counting
+pub mod ReadyGates

@@ -1,5 +1,5 @@
 -- A netlist with a new net and a pin moved to it
-use Rattle.std.proofs.Common.{◌≡◌, ◌≢◌, [], Option, Some, None, refl, sym, ap, ◌∙◌, inl, inr, ⊎_elim, ◌⊎◌}
+use Rattle.std.proofs.Common.{◌≡◌, Option, Some, None, refl, sym, ap, ◌∙◌, ⊎_elim}
 use Rattle.std.specs.FinMap.{FinMap, get, insert}
 use Rattle.eco_net.specs.Netlist.{Name, name_cmp, Netlist, Component, CompPin, IsNet}
 use Rattle.eco_net.specs.Changes.{with_net, with_pin_on, on_net}

@@ -1,5 +1,5 @@
 -- A patch gate's pins: their names, and the nets that they are put on one after another
-use Rattle.std.proofs.Common.{◌≡◌, ◌≢◌, ℕ, zero, suc, ◌+◌, ◌<◌, ◌≤◌, Bool, true, false, cond, List, [], ◌∷◌, ◌++◌, map, length, take, Option, Some, None, refl, sym, ap, ap₂, ◌∙◌, subst, arith, slice_get, inl, inr, ◌⊎◌, true≢false, zero-add}
+use Rattle.std.proofs.Common.{◌≡◌, ◌≢◌, ℕ, zero, suc, ◌+◌, ◌<◌, ◌≤◌, Bool, true, false, cond, List, [], ◌∷◌, ◌++◌, map, length, take, Some, None, refl, sym, ap, ap₂, ◌∙◌, subst, arith, slice_get, inl, inr, ◌⊎◌, true≢false, zero-add}
 use Rattle.std.specs.Prelude.{Result, Ok, Err, OnOk}
 use Rattle.std.specs.List.{range_with_len, enumerate_from}
 use Rattle.eco_func.specs.declared.memory.Memory.{Memory}

@@ -11,3 +11,4 @@ pub mod Moving
 pub mod PinMoves
 pub mod NetChanges
 pub mod OneSteps
+pub mod OneAnswers

@@ -1,6 +1,7 @@
 //! Designs with some pins on other nets, and their texts.
 #![tactic(auto)]
 
+mod apply_gate;
 mod bytes;
 mod coming;
 mod embedded;
@@ -34,6 +35,7 @@ mod stretch;
 mod tied_design;
 mod writer;
 
+pub use crate::apply_gate::apply_one;
 pub use crate::fault::MoveFault;
 pub use crate::gate_base::GateBase;
 pub use crate::gate_fault::GateFault;

@@ -1,10 +1,10 @@
-use Rattle.std.proofs.Common.{◌≡◌, ℕ, ◌<◌, ◌≤◌, ◌∙◌, refl, sym, ap, subst, length, take, arith, Some, slice_get, List}
-use Rattle.std.proofs.lemmas.Option.{slice_get_read, slice_get_within}
+use Rattle.std.proofs.Common.{◌≡◌, ℕ, ◌<◌, ◌≤◌, ◌∙◌, refl, sym, ap, subst, length, take, arith, Some, slice_get}
+use Rattle.std.proofs.lemmas.Option.{slice_get_read}
 use Rattle.std.specs.Prelude.{OnOk}
 use Rattle.std.proofs.lemmas.List.{take_all}
 use Rattle.eco_base.specs.declared.one_gate.OneGate.{OneGate}
 use Rattle.eco_net.specs.Changes.{with_pin_on}
-use Rattle.eco_net.specs.Netlist.{Name, IsNet}
+use Rattle.eco_net.specs.Netlist.{IsNet}
 use Rattle.eco_net.specs.Listing.{Listing, netlist, pin_named, IsKnownPin, with_joint}
 use Rattle.eco_net.specs.declared.ids.PinRef.TheVariants.{Pin}
 use Rattle.eco_net.proofs.Basics.{contains_from_has}

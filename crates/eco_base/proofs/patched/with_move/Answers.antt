@@ -1,6 +1,6 @@
 use Rattle.std.proofs.Common.{◌≡◌, ◌∙◌, ap, length, None, Some}
 use Rattle.std.specs.FinMap.{get}
-use Rattle.eco_net.specs.Netlist.{Netlist, Pin, CompPin}
+use Rattle.eco_net.specs.Netlist.{Netlist, CompPin}
 use Rattle.eco_net.specs.Changes.{with_net, with_pin_on}
 use Rattle.eco_net.specs.declared.ids.PinRef.TheVariants.{Pin as PinNumber}
 use Rattle.eco_net.specs.Listing.{Listing, netlist, pin_named}
