@@ -5,5 +5,6 @@ mod Ending
 mod Forms
 mod Lines
 mod Reading
+mod TwoTexts
 mod Words
 mod Writing
