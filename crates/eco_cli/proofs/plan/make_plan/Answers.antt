@@ -8,5 +8,5 @@ returns c =
     rw (
       c.in-Apply.is,
       two_texts (map string_bytes c.args.asked.now.values.now) c.args.texts.items c.remove-in-Apply.new.self.items c.remove-in-Apply.result c.remove-in-Apply-2.result within
-      c.remove-in-Apply.ensures.value c.remove-in-Apply.ensures.by_index.2 c.remove-in-Apply-2.ensures.value,
+          c.remove-in-Apply.ensures.value c.remove-in-Apply.ensures.by_index.2 c.remove-in-Apply-2.ensures.value,
     ) c.plan_apply.ensures
