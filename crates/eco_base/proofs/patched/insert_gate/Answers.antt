@@ -52,3 +52,10 @@ returns c =
     (subst (λ k. OnOk c.put_on-2.result ((n : ℕ) × (M ≡ record L { comps = with_joint L.comps c.in_ok-gate.gate.0 k n }))) count c.put_on-2.ensures.rows)
     (subst (λ k. OnOk c.put_on-2.result (netlist M ≡ with_pin_on (netlist L) (pin_named L (Pin c.in_ok-gate.gate k)) one.output)) count
     (subst (λ q. OnOk c.put_on-2.result (netlist M ≡ with_pin_on (netlist L) (pin_named L (Pin c.in_ok-gate.gate (length c.as_slice-inputs.result.now))) q)) c.bytes-2.ensures c.put_on-2.ensures.named))
+
+-- a table has at most six inputs
+pub overflow_cast-place : goal.overflow_cast-place
+overflow_cast-place c = omega (arith, ap length c.as_slice-inputs.ensures.value)
+
+pub overflow_cast-inputs : goal.overflow_cast-inputs
+overflow_cast-inputs c = omega (arith, ap length c.as_slice-inputs.ensures.value)
