@@ -42,7 +42,7 @@ fn insert_gate(alloc: Global, maker: &mut NetlistMaker, one: &OneGate) -> Result
 {
     let master = patch_master(alloc, one.table)?;
     let gate = maker.add_comp(alloc, b" ", Kind::Gate(master), None)?;
-    let _rows = one.table.inputs();
+    let _at_most_six = one.table.inputs();
     let inputs = one.inputs.as_slice();
     for (place, input) in inputs.iter().enumerate() {
         put_on(maker, gate, place as u32, input.bytes())?;
