@@ -1,4 +1,5 @@
 mod opening;
+mod patching;
 
 ghost use Rattle.std.specs.Prelude.{◌≡◌, map};
 ghost use Rattle.std.specs.List.{list_any};

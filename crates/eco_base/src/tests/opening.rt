@@ -3,7 +3,7 @@ use std::alloc::Global;
 use std::process::Abort;
 use std::test::Fail;
 
-const TEXT: &str = "UNITS DISTANCE MICRONS 1000 ;
+pub const TEXT: &str = "UNITS DISTANCE MICRONS 1000 ;
 COMPONENTS 3 ;
 - u1 NAND2 + PLACED ( 1000 1000 ) N ;
 - u2 INV + PLACED ( 3000 1000 ) N ;
@@ -20,10 +20,10 @@ END NETS
 END DESIGN
 ";
 
-const FUNCTIONS: &str =
+pub const FUNCTIONS: &str =
     "[INV]\ninputs = [\"A\"]\noutputs = { Y = \"10\" }\n[NAND2]\ninputs = [\"A\", \"B\"]\noutputs = { Y = \"1110\" }\n[AOI21]\ninputs = [\"A1\", \"A2\", \"B\"]\noutputs = { Y = \"11100000\" }\n";
 
-fn opened(
+pub fn opened(
     rt: &impl Abort,
     alloc: Global,
     def: &str,
