@@ -19,7 +19,13 @@ struct Asked(
     [&'static str; 3],
 );
 
-const INVERTER: Asked = Asked("SP_1", "a", &[Feed::One, Feed::Input(0)], "m1", ["u2", "A", "n1"]);
+const INVERTER: Asked = Asked(
+    "SP_1",
+    "a",
+    &[Feed::One, Feed::Input(0)],
+    "m1",
+    ["u2", "A", "n1"],
+);
 
 fn name(alloc: Global, text: &str) -> Result<Name, Fail> {
     Ok(Name::of(alloc, text.as_bytes())?)
@@ -42,12 +48,7 @@ fn order(alloc: Global, asked: &Asked) -> Result<OneGate, Fail> {
 }
 
 /// The issued text, or the fault.
-fn said(
-    rt: &impl Abort,
-    alloc: Global,
-    base: &GateBase,
-    asked: &Asked,
-) -> Result<String, Fail> {
+fn said(rt: &impl Abort, alloc: Global, base: &GateBase, asked: &Asked) -> Result<String, Fail> {
     let order = order(alloc, asked)?;
     let overlay = match apply_one(base, alloc, &order) {
         Ok(overlay) => overlay,
@@ -84,6 +85,7 @@ fn an_inverter_on_a_nand(rt: HostRuntime) -> Result<(), Fail> {
 }
 
 const TIED: &[Feed] = &[Feed::One, Feed::Input(0)];
+
 const MOVED: [&str; 3] = ["u2", "A", "n1"];
 
 const REFUSED: [(Asked, &str); 18] = [
@@ -101,15 +103,45 @@ const REFUSED: [(Asked, &str); 18] = [
     (Asked("SP_1", "a", TIED, "MUSTJOIN", MOVED), "BadOrder"),
     (Asked("SP_1", "a", TIED, "", MOVED), "BadOrder"),
     // pins that can't be moved
-    (Asked("SP_1", "a", TIED, "m1", ["u2", "Y", "n2"]), "BadOrder"),
-    (Asked("SP_1", "a", TIED, "m1", ["u2", "B", "n1"]), "BadOrder"),
-    (Asked("SP_1", "a", TIED, "m1", ["u2", "A", "n2"]), "BadOrder"),
-    (Asked("SP_1", "a", TIED, "m1", ["SP_1", "A", "VSS"]), "BadOrder"),
+    (
+        Asked("SP_1", "a", TIED, "m1", ["u2", "Y", "n2"]),
+        "BadOrder",
+    ),
+    (
+        Asked("SP_1", "a", TIED, "m1", ["u2", "B", "n1"]),
+        "BadOrder",
+    ),
+    (
+        Asked("SP_1", "a", TIED, "m1", ["u2", "A", "n2"]),
+        "BadOrder",
+    ),
+    (
+        Asked("SP_1", "a", TIED, "m1", ["SP_1", "A", "VSS"]),
+        "BadOrder",
+    ),
     // pins that don't make the gate
-    (Asked("SP_1", "a", &[Feed::Zero, Feed::Input(0)], "m1", MOVED), "NotEmbedding"),
-    (Asked("SP_1", "a", &[Feed::One, Feed::Input(1)], "m1", MOVED), "NotEmbedding"),
-    (Asked("SP_1", "a", &[Feed::Input(0)], "m1", MOVED), "NotEmbedding"),
-    (Asked("SP_1", "a", &[Feed::One, Feed::Input(0), Feed::Zero], "m1", MOVED), "NotEmbedding"),
+    (
+        Asked("SP_1", "a", &[Feed::Zero, Feed::Input(0)], "m1", MOVED),
+        "NotEmbedding",
+    ),
+    (
+        Asked("SP_1", "a", &[Feed::One, Feed::Input(1)], "m1", MOVED),
+        "NotEmbedding",
+    ),
+    (
+        Asked("SP_1", "a", &[Feed::Input(0)], "m1", MOVED),
+        "NotEmbedding",
+    ),
+    (
+        Asked(
+            "SP_1",
+            "a",
+            &[Feed::One, Feed::Input(0), Feed::Zero],
+            "m1",
+            MOVED,
+        ),
+        "NotEmbedding",
+    ),
 ];
 
 #[test]
