@@ -85,7 +85,7 @@ only_output (i ∷ ins) output table p t e = ⊎_elim
     (λ n. only_output ins output table p t (find_rest (i, Reads) (map {B = Name × Role} (λ p. (p, Reads)) ins ++ (output, Computes table) ∷ []) p n e))
     (same_name p i)
 
-one_spare_is : (N : Netlist) (low high spare : Name) (is : IsOneSpare N low high spare) → IsSpare is.comp
+pub one_spare_is : (N : Netlist) (low high spare : Name) (is : IsOneSpare N low high spare) → IsSpare is.comp
 one_spare_is N low high spare is = record {
   inputs = is.inputs;
   outputs = (is.output, is.table) ∷ [];
@@ -161,7 +161,7 @@ module _ (functions : List MasterTables) (low high : Name) (text : List ℕ) (de
       let same : x.kind ≡ kind_of (GivenGate m.0) = ap (λ z. z.kind) (sym y.4) ∙ sym m.2 in
       (m.0, contains_from_has functions m.0 m.1, contains_from_has (full.pin_names (kind_of (GivenGate m.0))) p (has_found (pins_of (kind_of (GivenGate m.0))) p r.0 (ap (λ k. find name_cmp p (pins_of k)) (sym same) ∙ r.1)))
 
-  supplied : IsSupplied N low high
+  pub supplied : IsSupplied N low high
   supplied = record {
     whole = netlist_whole kinds ties d (masters_whole functions masters);
     loop_free = base.loop_free;
@@ -223,7 +223,7 @@ module _ (functions : List MasterTables) (low high : Name) (text : List ℕ) (de
     abbrev nets : List Name
     nets = one.output ∷ []
 
-    takes : Takes N nets joints
+    pub takes : Takes N nets joints
     takes = base_takes_joints (lone_base N low high one.spare) [] (λ g. None) order (placed ∷ []) patch
 
     -- ---- on a plain base

@@ -18,3 +18,12 @@ pub mod SameJoints
 pub mod Applying
 pub mod TiedTests
 pub mod Opening
+pub mod SpareTables
+pub mod GatePins
+pub mod Spares
+pub mod MovedPins
+pub mod FedPins
+pub mod PatchPins
+pub mod MovedNetlists
+pub mod Counting
+pub mod ReadyGates

@@ -10,3 +10,5 @@ pub mod Overlays
 pub mod Moving
 pub mod PinMoves
 pub mod NetChanges
+pub mod OneSteps
+pub mod OneAnswers

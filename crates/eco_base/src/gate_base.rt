@@ -69,6 +69,15 @@ impl GateBase {
         &self.design
     }
 
+    /// The text and its design, without the rest.
+    pub fn into_text_and_design(self) -> (Vec<u8>, Design)
+        ensures text { result.0.items ≡ self.text }
+        ensures design { result.1 ≡ self.design }
+        ensures reading { IsReadingOf result.0.items result.1 }
+    {
+        (self.text, self.design)
+    }
+
     /// The name of the tie net that is 0.
     pub fn low(&self) -> &Name
         ensures { result.now ≡ self.now.low }

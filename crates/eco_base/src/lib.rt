@@ -1,31 +1,41 @@
 //! Designs with some pins on other nets, and their texts.
 #![tactic(auto)]
 
+mod apply_gate;
 mod bytes;
 mod coming;
+mod embedded;
 mod fault;
 mod fresh;
 mod gate_base;
 mod gate_fault;
+mod gate_joints;
 mod gates;
+mod good_order;
 mod issuing;
 mod laws;
 mod moves;
 mod moving;
+mod named_pins;
 mod names;
 mod net_changes;
 mod new_joint;
+mod new_nets;
 mod of_joints;
 mod one_fault;
 mod one_gate;
 mod overlay;
+mod patch_master;
+mod patched;
 mod pin_move;
+mod spare;
 mod standing;
 mod statement;
 mod stretch;
 mod tied_design;
 mod writer;
 
+pub use crate::apply_gate::apply_one;
 pub use crate::fault::MoveFault;
 pub use crate::gate_base::GateBase;
 pub use crate::gate_fault::GateFault;

@@ -1,3 +1,6 @@
+mod opening;
+mod patching;
+
 ghost use Rattle.std.specs.Prelude.{◌≡◌, map};
 ghost use Rattle.std.specs.List.{list_any};
 ghost use Rattle.eco_base.specs.PinMoves.{named_joint, same_pin, are_pins_apart};

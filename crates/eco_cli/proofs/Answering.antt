@@ -1,12 +1,25 @@
 -- What follows from the answer of a command line.
-use Rattle.std.proofs.Common.{◌<◌, ◌≡◌, ℕ, inl, inr, List, Option, Result, Ok, Err, sym, ◌∙◌, arith}
+use Rattle.std.proofs.Common.{◌<◌, ◌≡◌, ◌⊎◌, ℕ, Bool, true, false, inl, inr, List, [], ◌∷◌, Option, Some, None, Result, Ok, Err, refl, sym, subst, ◌∙◌, arith}
 use Rattle.std.specs.Io.KnownBytes.{append_known}
+use Rattle.eco_cli.specs.CommandLine.{Listed, is_bad, is_complete, HasReading, IsFirstBad}
+use Rattle.eco_cli.specs.Commands.{options_of, Asks, IsBadWord}
 use Rattle.eco_cli.specs.Opens.{Told}
 use Rattle.eco_cli.specs.Ending.{Comes, IsRefusal}
 use Rattle.eco_cli.specs.Telling.{status_of, line_of, Tells}
+use Rattle.eco_cli.specs.declared.command.Command.{Command}
 use Rattle.eco_cli.specs.declared.done.Done.{Done}
 use Rattle.eco_cli.specs.declared.failure.Failure.{Failure}
 use Rattle.eco_cli.specs.declared.failure.Failure.TheVariants as failed
+
+one_bit : (b : Bool) → b ≡ false → b ≡ true → ⊥
+one_bit true is other = cc
+one_bit false is other = cc
+
+none_some : (c : Command) → None ≡ Some c → ⊥
+none_some c is = cc
+
+some_same : (c d : Command) → Some c ≡ Some d → c ≡ d
+some_same c d is = cc
 
 -- an answer is one status alone
 one_status : (answer a b : ℕ) → answer ≡ a → answer ≡ b → a < b → ⊥
@@ -41,3 +54,31 @@ pub refused_answers : {T I O : Type 0} (h : Told T I O) (left : I → Option (Li
     Comes h left taken old new words r → Tells before after f f' (line_of r) (status_of r) answer → answer ≡ 1 → (e : Failure) × IsRefusal e × Comes h left taken old new words (Err e) × (after ≡ append_known before (line_of (Err e)))
 refused_answers h left taken old new words before after f f' r answer comes (inl t) is = refused_ends h left taken old new words before after r (sym t.0 ∙ is) comes t.1
 refused_answers h left taken old new words before after f f' r answer comes (inr t) is = absurd (one_status answer 1 4 is t.0 (omega arith))
+
+-- ---- bad words
+
+no_first : (table : List Listed) (ws : List (List ℕ)) (m : ℕ) → HasReading table ws → IsFirstBad table ws m → ⊥
+no_first table ws m reads (inl bad) = one_bit (is_bad table ws m) (reads.0 m bad.0) bad.1
+no_first table ws m reads (inr bad) = one_bit (is_complete table ws) bad.2 reads.1
+
+-- a line that asks for a command has no bad word
+none_bad : (words : List (List ℕ)) (c : Command) (behind : List (List ℕ)) (n : ℕ) → Asks words c behind → IsBadWord words n → ⊥
+none_bad [] c behind n asks bad = asks
+none_bad (w ∷ ws) c behind n asks (inl bad) = none_some c (sym bad.0 ∙ asks.0)
+none_bad (w ∷ ws) c behind n asks (inr bad) =
+    let same : bad.0 ≡ c = some_same bad.0 c (sym bad.1 ∙ asks.0) in
+    no_first (options_of c) ws bad.2.0 asks.2 (subst (λ k. IsFirstBad (options_of k) ws bad.2.0) same bad.2.2)
+
+bad_ends : {T I O : Type 0} (h : Told T I O) (left : I → Option (List ℕ)) (taken : O → Option (List ℕ)) (old new : T) (words : List (List ℕ)) (r : Result Done Failure) (n : ℕ) → Comes h left taken old new words r → IsBadWord words n → status_of r ≡ 2
+bad_ends h left taken old new words (Ok d) n comes bad = absurd (none_bad words comes.0 comes.1 n comes.2 bad)
+bad_ends h left taken old new words (Err (failed.Words k)) n comes bad = refl
+bad_ends h left taken old new words (Err (failed.TooLong option)) n comes bad = absurd (none_bad words comes.0 comes.1 n comes.2 bad)
+bad_ends h left taken old new words (Err (failed.Refused refusal)) n comes bad = absurd (none_bad words comes.0 comes.1 n comes.2 bad)
+bad_ends h left taken old new words (Err failed.Read) n comes bad = absurd (none_bad words comes.0 comes.1 n comes.2 bad)
+bad_ends h left taken old new words (Err failed.Write) n comes bad = absurd (none_bad words comes.0 comes.1 n comes.2 bad)
+bad_ends h left taken old new words (Err failed.Memory) n comes bad = absurd (none_bad words comes.0 comes.1 n comes.2 bad)
+
+pub bad_word_answers : {T I O : Type 0} (h : Told T I O) (left : I → Option (List ℕ)) (taken : O → Option (List ℕ)) (old new : T) (words : List (List ℕ)) (before after : Option (List ℕ)) (f f' : ℕ) (r : Result Done Failure) (answer n : ℕ) →
+    Comes h left taken old new words r → Tells before after f f' (line_of r) (status_of r) answer → IsBadWord words n → (answer ≡ 2) ⊎ (answer ≡ 4)
+bad_word_answers h left taken old new words before after f f' r answer n comes (inl t) bad = inl (t.0 ∙ bad_ends h left taken old new words r n comes bad)
+bad_word_answers h left taken old new words before after f f' r answer n comes (inr t) bad = inr t.0

@@ -3,6 +3,8 @@ mod Answering
 mod Counting
 mod Ending
 mod Forms
+mod Lines
 mod Reading
+mod TwoTexts
 mod Words
 mod Writing

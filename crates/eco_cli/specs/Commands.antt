@@ -3,6 +3,7 @@ use Rattle.std.specs.Prelude.{◌≡◌, ℕ, ◌+◌, ◌⊎◌, List, [], ◌�
 use Rattle.std.specs.Str.{bytes_eq}
 use Rattle.eco_cli.specs.CommandLine.{Listed, HasReading, IsFirstBad, inputs_in, output_in}
 use Rattle.eco_cli.specs.Job.{Job}
+use Rattle.eco_cli.specs.ApplyCommand.{apply_options, ApplyGives, ApplyRefuses}
 use Rattle.eco_cli.specs.CheckCommand.{check_options, CheckGives, CheckRefuses}
 use Rattle.eco_cli.specs.MoveCommand.{move_options, move_in, MoveGives, MoveRefuses}
 use Rattle.eco_cli.specs.declared.command.Command.{Command}
@@ -17,22 +18,26 @@ abbrev pub command_named : List ℕ → Option Command
 command_named w =
     if bytes_eq w (codes "move") then Some command.Move
     else if bytes_eq w (codes "check") then Some command.Check
+    else if bytes_eq w (codes "apply") then Some command.Apply
     else None
 
 -- its options, in the order in which inputs are opened
 abbrev pub options_of : Command → List Listed
 options_of command.Move = move_options
 options_of command.Check = check_options
+options_of command.Apply = apply_options
 
 -- what texts of its inputs give, with these words behind it
 abbrev pub Gives : Command → List (List ℕ) → List (List ℕ) → Done → List ℕ → Type 0
 Gives command.Move words = MoveGives (move_in words)
 Gives command.Check words = CheckGives
+Gives command.Apply words = ApplyGives words
 
 -- why texts of its inputs are refused
 abbrev pub Refuses : Command → List (List ℕ) → List (List ℕ) → Refusal → Type 0
 Refuses command.Move words = MoveRefuses (move_in words)
 Refuses command.Check words = CheckRefuses
+Refuses command.Apply words = ApplyRefuses words
 
 -- ---- of any command
 

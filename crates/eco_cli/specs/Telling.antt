@@ -10,8 +10,14 @@ use Rattle.eco_def.specs.declared.fault.Section.{Section}
 use Rattle.eco_def.specs.declared.fault.Section.TheVariants.{Units, Components, Nets}
 use Rattle.eco_lef.specs.declared.fault.LefFault.{LefFault}
 use Rattle.eco_lef.specs.declared.fault.LefFault.TheVariants as lef
+use Rattle.eco_func.specs.declared.fault.FuncFault.{FuncFault}
+use Rattle.eco_func.specs.declared.fault.FuncFault.TheVariants as func
 use Rattle.eco_base.specs.declared.fault.MoveFault.{MoveFault}
 use Rattle.eco_base.specs.declared.fault.MoveFault.TheVariants as moving
+use Rattle.eco_base.specs.declared.gate_fault.GateFault.{GateFault}
+use Rattle.eco_base.specs.declared.gate_fault.GateFault.TheVariants as gates
+use Rattle.eco_base.specs.declared.one_fault.OneFault.{OneFault}
+use Rattle.eco_base.specs.declared.one_fault.OneFault.TheVariants as one
 use Rattle.eco_cli.specs.declared.base_fault.BaseFault.{BaseFault}
 use Rattle.eco_cli.specs.declared.base_fault.BaseFault.TheVariants as base
 use Rattle.eco_cli.specs.declared.done.Done.{Done}
@@ -73,10 +79,36 @@ abbrev pub base_text : BaseFault → List ℕ
 base_text (base.Lef fault) = codes "eco: base Lef " ++ lef_text fault
 base_text (base.Def fault) = codes "eco: base Def " ++ def_text fault
 
+-- a fault of a functions file by its name and its fields
+abbrev pub func_text : FuncFault → List ℕ
+func_text func.BadToml = codes "BadToml"
+func_text (func.BadField master field) = codes "BadField master=" ++ (master ++ (codes " field=" ++ field))
+func_text (func.TooManyInputs master) = codes "TooManyInputs master=" ++ master
+func_text (func.BadTable master output) = codes "BadTable master=" ++ (master ++ (codes " output=" ++ output))
+func_text (func.BadExpression master output place) = codes "BadExpression master=" ++ (master ++ (codes " output=" ++ (output ++ (codes " place=" ++ decimal place))))
+func_text (func.UnknownInput master output input) = codes "UnknownInput master=" ++ (master ++ (codes " output=" ++ (output ++ (codes " input=" ++ input))))
+func_text (func.TooManyMasters count) = codes "TooManyMasters count=" ++ decimal count
+func_text func.Memory = codes "memory"
+
+-- why files give no base of gates
+abbrev pub gates_text : GateFault → List ℕ
+gates_text (gates.Def fault) = codes "eco: base Def " ++ def_text fault
+gates_text (gates.Func fault) = codes "eco: base Func " ++ func_text fault
+gates_text gates.NotYet = codes "eco: base NotYet"
+gates_text gates.Memory = codes "eco: memory"
+
+abbrev pub one_words : OneFault → List ℕ
+one_words one.NotSpare = codes "eco: apply NotSpare"
+one_words one.BadOrder = codes "eco: apply BadOrder"
+one_words one.NotEmbedding = codes "eco: apply NotEmbedding"
+one_words one.Memory = codes "eco: memory"
+
 abbrev pub refusal_text : Refusal → List ℕ
 refusal_text (refused.Def fault) = codes "eco: def " ++ def_text fault
 refusal_text (refused.Move fault) = move_words fault
 refusal_text (refused.Base fault) = base_text fault
+refusal_text (refused.Gates fault) = gates_text fault
+refusal_text (refused.Apply fault) = one_words fault
 
 -- a line that ends with a number
 abbrev pub count_line : List ℕ → ℕ → List ℕ

@@ -4,6 +4,7 @@ ghost use Rattle.std.specs.Prelude.{◌≡◌, map, string_bytes, MatchResult};
 ghost use Rattle.eco_cli.specs.CommandLine.{listed_of};
 ghost use Rattle.eco_cli.specs.Commands.{command_named, options_of, Asks, IsBadWord};
 
+use crate::apply_words::apply_options;
 use crate::check_words::check_options;
 use crate::command_line::first_bad;
 use crate::command_option::CommandOption;
@@ -14,6 +15,7 @@ use crate::move_words::move_options;
 pub enum Command {
     Move,
     Check,
+    Apply,
 }
 
 /// What a command line asks: a command, and the words behind it.
@@ -30,6 +32,8 @@ fn named(word: &str) -> Option<Command>
         Some(Command::Move)
     } else if word == "check" {
         Some(Command::Check)
+    } else if word == "apply" {
+        Some(Command::Apply)
     } else {
         None
     }
@@ -42,6 +46,7 @@ pub fn options(command: Command) -> &'static [CommandOption]
     match command {
         Command::Move => move_options(),
         Command::Check => check_options(),
+        Command::Apply => apply_options(),
     }
 }
 

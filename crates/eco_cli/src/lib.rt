@@ -2,6 +2,7 @@
 #![tactic(auto)]
 
 mod apply_words;
+mod applying;
 mod base_fault;
 mod check_words;
 mod checking;
@@ -19,6 +20,7 @@ mod memory;
 mod move_words;
 mod moving;
 mod open;
+mod order;
 mod output;
 mod plan;
 mod refusal;
@@ -26,6 +28,7 @@ mod report;
 mod returned;
 mod running;
 mod telling;
+mod telling_gates;
 mod texts;
 mod value_form;
 

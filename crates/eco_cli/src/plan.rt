@@ -6,6 +6,7 @@ ghost use Rattle.eco_cli.specs.CommandLine.{HasReading, inputs_in};
 ghost use Rattle.eco_cli.specs.Commands.{options_of, Gives, Refuses};
 ghost use Rattle.eco_cli.specs.Steps.{AreWithin, Plans, CanBeIssued, bytes_of, told_of};
 
+use crate::applying::plan_apply;
 use crate::checking::plan_check;
 use crate::command::{Asked, Command};
 use crate::done::Done;
@@ -36,6 +37,7 @@ pub fn make_plan(alloc: Global, asked: &Asked<'_>, texts: Vec<Vec<u8>>) -> Resul
     match asked.command {
         Command::Move => plan_move(alloc, texts.remove(0), &move_words(asked.values)),
         Command::Check => plan_check(alloc, texts.remove(0), texts.remove(0)),
+        Command::Apply => plan_apply(alloc, texts.remove(0), texts.remove(0), asked.values),
     }
 }
 

@@ -1,7 +1,7 @@
 //! Why the texts of the inputs, or what is asked in them, are refused.
 
 use crate::base_fault::BaseFault;
-use eco_base::MoveFault;
+use eco_base::{GateFault, MoveFault, OneFault};
 use eco_def::DefFault;
 
 /// Why a command refuses what it read.
@@ -13,4 +13,8 @@ pub enum Refusal {
     Move(MoveFault),
     /// A file of the base is refused.
     Base(BaseFault),
+    /// The files give no base of gates.
+    Gates(GateFault),
+    /// The order of one gate is refused.
+    Apply(OneFault),
 }

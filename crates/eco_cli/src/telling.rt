@@ -10,6 +10,7 @@ use crate::done::Done;
 use crate::failure::Failure;
 use crate::refusal::Refusal;
 use crate::report::Report;
+use crate::telling_gates::{one_line, print_gates};
 use eco_base::MoveFault;
 use eco_def::{DefFault, Section};
 use eco_lef::LefFault;
@@ -17,7 +18,7 @@ use eco_text::{Failed, Sink, TextFault, write_piece, write_pieces};
 use itoa::Buffer;
 
 /// A line that ends with a number.
-fn print_number<O: Sink>(head: &[u8], number: u64, out: &mut O) -> Result<(), Failed>
+pub fn print_number<O: Sink>(head: &[u8], number: u64, out: &mut O) -> Result<(), Failed>
     ensures { Writes O.taken O.faults out.old out.new result (count_line head.now number) }
 {
     let mut buffer = Buffer::new();
@@ -67,7 +68,7 @@ fn section_word(section: Section) -> &'static [u8]
 }
 
 /// A line of three parts.
-fn print_parts<O: Sink>(
+pub fn print_parts<O: Sink>(
     first: &[u8],
     second: &[u8],
     third: &[u8],
@@ -97,7 +98,7 @@ fn quote_place(fault: TextFault) -> u32
 }
 
 /// The line of a DEF's fault, behind what it begins with.
-fn print_def<O: Sink>(head: &[u8], fault: DefFault, out: &mut O) -> Result<(), Failed>
+pub fn print_def<O: Sink>(head: &[u8], fault: DefFault, out: &mut O) -> Result<(), Failed>
     ensures { Writes O.taken O.faults out.old out.new result ((head.now ++ def_text fault) ++ 10 ∷ []) }
 {
     match fault {
@@ -155,6 +156,8 @@ fn print_refusal<O: Sink>(refusal: &Refusal, out: &mut O) -> Result<(), Failed>
         Refusal::Def(fault) => print_def(b"eco: def ", *fault, out),
         Refusal::Move(fault) => write_piece(move_line(*fault), out),
         Refusal::Base(fault) => print_base(fault, out),
+        Refusal::Gates(fault) => print_gates(fault, out),
+        Refusal::Apply(fault) => write_piece(one_line(*fault), out),
     }
 }
 
