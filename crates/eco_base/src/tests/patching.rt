@@ -4,6 +4,7 @@ use crate::tests::opening::{FUNCTIONS, TEXT, opened};
 use crate::{GateBase, OneGate, apply_one, emit, emit_len};
 use eco_embed::Feed;
 use eco_func::{Name, Table};
+use eco_net::{CutValues, Netlist};
 use eco_text::ByteSink;
 use std::alloc::Global;
 use std::process::Abort;
@@ -81,6 +82,31 @@ fn an_inverter_on_a_nand(rt: HostRuntime) -> Result<(), Fail> {
     assert_eq!(rt; issued, wanted);
     // The issued text is that of a base again.
     assert!(rt; opened(&rt, alloc, issued.as_str(), FUNCTIONS, ["VDD", "VSS"])?.is_ok());
+    Ok(())
+}
+
+/// The value of a net where each cut key has the bit 1.
+fn value(alloc: Global, netlist: &Netlist, net: &str) -> Result<bool, Fail> {
+    let levels = netlist.levels(alloc)?;
+    let keys = netlist.cut_keys(alloc)?;
+    let bits = CutValues::new(vec![in alloc; true; keys.len()]?);
+    let values = netlist.value_all(alloc, &levels, &bits)?;
+    let net = netlist.find_net(net.as_bytes()).ok_or("no such net")?;
+    if net.0 < netlist.counts().nets {
+        return Ok(values.at(net));
+    }
+    Err("no such net".into())
+}
+
+#[test]
+fn what_the_issued_text_computes(rt: HostRuntime) -> Result<(), Fail> {
+    let alloc = rt.alloc();
+    let base = opened(&rt, alloc, TEXT, FUNCTIONS, ["VDD", "VSS"])??;
+    let issued = said(&rt, alloc, &base, &INVERTER)?;
+    let again = opened(&rt, alloc, issued.as_str(), FUNCTIONS, ["VDD", "VSS"])??;
+    for (net, bit) in [("a", true), ("m1", false), ("n1", false), ("n2", true)] {
+        assert!(rt; value(alloc, again.netlist(), net)? == bit, "{net}");
+    }
     Ok(())
 }
 
