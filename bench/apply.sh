@@ -1,5 +1,5 @@
 #!/bin/sh
-# Times `eco apply` on a netlist of 500,000 gates, and on one of 1,000,000, beside `eco move` and `wc -w` on the same text.
+# Times `eco apply` on netlists of about 500,000 and 1,000,000 gates (as many as a DEF may have nets), beside `eco move` and `wc -w` on the same text.
 # Call it at the top of the repository with the built program: bench/apply.sh PROGRAM [N ..]
 set -e
 program=$1
@@ -7,7 +7,7 @@ shift
 folder=$(mktemp -d)
 trap 'rm -rf "$folder"' EXIT
 printf '[AND3]\ninputs = ["A", "B", "C"]\noutputs = { Y = "00000001" }\n' >"$folder/functions.toml"
-for count in ${*:-500000 1000000}; do
+for count in ${*:-499994 999988}; do
     python3 bench/gates.py "$count" >"$folder/big.def"
     echo "file $(wc -c <"$folder/big.def") bytes, $count gates"
     last=$((count - 1))

@@ -2,7 +2,7 @@
 """Writes a placed netlist of N gates of three inputs, and one spare, as DEF: gates.py N > FILE.
 
 Each gate reads three nets at inputs or behind earlier gates, so that no signal runs in a circle; which ones is a fixed
-rule, so each run writes the same bytes. The spare SP_1 stands tied to VSS. With N = 1000000 the file has about 130
+rule, so each run writes the same bytes. The spare SP_1 stands tied to VSS. With N = 1000000 the file has about 114
 megabytes, N + 12 nets and 4 N + 3 joints.
 """
 import sys
