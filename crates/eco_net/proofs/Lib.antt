@@ -39,5 +39,6 @@ pub mod GateTables
 pub mod KeyCounts
 pub mod DepthNumbers
 pub mod DepthNames
+pub mod Removed
 mod Examples
 mod Loops

@@ -24,3 +24,4 @@ pub mod KeysOf
 pub mod Seen
 pub mod SinksOf
 pub mod ValuesOf
+pub mod Removal
