@@ -40,5 +40,6 @@ pub mod KeyCounts
 pub mod DepthNumbers
 pub mod DepthNames
 pub mod Removed
+pub mod JoinedNames
 mod Examples
 mod Loops

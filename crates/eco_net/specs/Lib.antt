@@ -25,3 +25,4 @@ pub mod Seen
 pub mod SinksOf
 pub mod ValuesOf
 pub mod Removal
+pub mod JoinedPins
