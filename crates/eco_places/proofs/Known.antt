@@ -19,7 +19,7 @@ use Rattle.eco_full.proofs.Members.{any_has, has_any}
 use Rattle.eco_places.specs.Places.{PinPlace, top_word, every_word, joints, places}
 use Rattle.eco_places.specs.Pins.{parts_of, has_signal, is_signal}
 use Rattle.eco_places.specs.Faults.{named, is_every, is_unknown, first_net, differs, is_on_second, is_pattern}
-use Rattle.eco_places.specs.Laws.{IsFirst, FirstIs, IsSupplyOf, NamesPin, EachPin, TopPin, SignalPin, SupplyPin, UnknownIs, IsSignal, OfTop, OfComp, IsSamePin, IsSecond, DifferingIs, IsPatternOnSignal, PatternIs, JointsKnown, OneNet}
+use Rattle.eco_places.specs.Laws.{IsFirst, FirstIs, IsSupplyPinOf, NamesPin, EachPin, TopPin, SignalPin, SupplyPin, UnknownIs, IsSignal, OfTop, OfComp, IsSamePin, IsSecond, DifferingIs, IsPatternOnSignal, PatternIs, JointsKnown, OneNet}
 use Rattle.eco_places.proofs.First.{first_is, first_among}
 use Rattle.eco_places.proofs.Finding.{none_passes}
 use Rattle.eco_places.proofs.InWords.{has_kind, kind_has, unknown_not, known_said, not_unknown, to_signal}
@@ -79,10 +79,10 @@ joints_known kinds powers text d r none s j h i c =
     let named_pin = known_said kinds powers (named text d) (once text d r) p.0 (none_passes (is_unknown kinds powers (parts_of (named text d))) (joints text d) none p.0 p.1) in
     ⊎_elim
     (λ a. inl (subst (λ n. IsPinOf kinds (named text d) j.comp n) p.3 (subst (λ m. IsPinOf kinds (named text d) m p.0.pin) p.2 a)))
-    (λ a. inr (subst (λ n. IsSupplyOf powers (named text d) j.comp n) p.3 (subst (λ m. IsSupplyOf powers (named text d) m p.0.pin) p.2 a)))
+    (λ a. inr (subst (λ n. IsSupplyPinOf powers (named text d) j.comp n) p.3 (subst (λ m. IsSupplyPinOf powers (named text d) m p.0.pin) p.2 a)))
     (of_comp p.0 (ap is_no_component p.2 ∙ c) named_pin)
   where
-    of_comp : (q : PinPlace) → is_no_component q.comp ≡ false → NamesPin kinds powers (named text d) q → IsPinOf kinds (named text d) q.comp q.pin ⊎ IsSupplyOf powers (named text d) q.comp q.pin
+    of_comp : (q : PinPlace) → is_no_component q.comp ≡ false → NamesPin kinds powers (named text d) q → IsPinOf kinds (named text d) q.comp q.pin ⊎ IsSupplyPinOf powers (named text d) q.comp q.pin
     of_comp q c (EachPin t e) = absurd (every_is_none q.comp e c)
     of_comp q c (TopPin e t u n) = absurd (top_is_none q.comp e c)
     of_comp q c (SignalPin e a) = inl a

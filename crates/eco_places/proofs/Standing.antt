@@ -42,10 +42,13 @@ module _ (text : List ℕ) (d : Design) where
       let k = subst (λ (z : NamedNet). Has z.joints j) (sym t.2) i in
       let u = has_of_map joint_names (map (joint_in text) t.0.joints) j k in
       let v = has_of_map (joint_in text) t.0.joints u.0 u.1 in
-      let same : joint_names (joint_in text v.0) ≡ j = ap joint_names v.2 ∙ u.2 in
-      (joint_place text t.0 v.0,
-      in_flat_map (joints_on text) d.nets t.0 (joint_place text t.0 v.0) t.1 (has_map (joint_place text t.0) t.0.joints v.0 v.1),
-      ap (λ (z : NamedJoint). z.comp) same, ap (λ (z : NamedJoint). z.pin) same, ap (λ (z : NamedNet). z.name) t.2)
+      let same : joint_names (joint_in text v.0) ≡ j = ap joint_names v.2 ∙ u.2 in (
+        joint_place text t.0 v.0,
+        in_flat_map (joints_on text) d.nets t.0 (joint_place text t.0 v.0) t.1 (has_map (joint_place text t.0) t.0.joints v.0 v.1),
+        ap (λ (z : NamedJoint). z.comp) same,
+        ap (λ (z : NamedJoint). z.pin) same,
+        ap (λ (z : NamedNet). z.name) t.2,
+      )
 
   -- each joint is a place
   pub joint_among : (p : PinPlace) → Has (joints text d) p → Has (places text d) p

@@ -92,7 +92,7 @@ module _ (kinds : Kinds) (powers : Powers) (text : List ℕ) (d : Design) (r : I
             ∙ sym (on_its_net t i l p (has_from_contains (places text d) p h) c (sym n)))
 
   module _ (named_each : (p : PinPlace) → Contains (joints text d) p → is_no_component p.comp ≡ true → NamesPin kinds powers e p)
-    (one : (p : PinPlace) → Contains (places text d) p → p.comp ≡ top_word → IsSecond kinds e (places text d) p → ⊥) where
+      (one : (p : PinPlace) → Contains (places text d) p → p.comp ≡ top_word → IsSecond kinds e (places text d) p → ⊥) where
     -- a joint of a top pin that isn't supply is on its net
     its_net : (p : PinPlace) → Has (joints text d) p → p.comp ≡ top_word → (t : NamedPin) → Contains e.pins t → t.name ≡ p.pin → t.supply ≡ false → t.net ≡ p.net
     its_net p h c t i n s =

@@ -27,9 +27,12 @@ FirstIs P ps (Some p) = IsFirst P ps p
 
 -- ---- joints of no pin
 
--- a component of this name has the pin as a supply pin
-abbrev pub IsSupplyOf : Powers → NamedDesign → Name → Name → Type 0
-IsSupplyOf powers d comp pin = (c : NamedComp) × Contains d.comps c × (c.name ≡ comp) × (powers c.model pin ≡ true)
+-- a component of the design has this name, and its macro has the pin as a supply pin
+pub record IsSupplyPinOf (powers : Powers) (d : NamedDesign) (comp pin : Name) : Type 0 where
+  pub of : NamedComp
+  pub found : Contains d.comps of
+  pub same : of.name ≡ comp
+  pub supply : powers of.model pin ≡ true
 
 -- What a joint names: every component that has the pin (in SPECIALNETS alone), a top pin, a pin of a component, or a supply pin
 -- of one.
@@ -37,7 +40,7 @@ pub data NamesPin (kinds : Kinds) (powers : Powers) (d : NamedDesign) (p : PinPl
   EachPin : p.special ≡ true → p.comp ≡ every_word → NamesPin kinds powers d p
   TopPin : p.comp ≡ top_word → (t : NamedPin) → Contains d.pins t → t.name ≡ p.pin → NamesPin kinds powers d p
   SignalPin : is_no_component p.comp ≡ false → IsPinOf kinds d p.comp p.pin → NamesPin kinds powers d p
-  SupplyPin : is_no_component p.comp ≡ false → IsSupplyOf powers d p.comp p.pin → NamesPin kinds powers d p
+  SupplyPin : is_no_component p.comp ≡ false → IsSupplyPinOf powers d p.comp p.pin → NamesPin kinds powers d p
 
 -- the first unknown joint is the first that names no pin
 abbrev pub UnknownIs : Type 0
@@ -85,7 +88,7 @@ PatternIs = (kinds : Kinds) (text : List ℕ) (d : Design) → FirstIs (IsPatter
 
 -- each joint of a component is of its pin or of its supply pin
 abbrev pub AreKnown : Kinds → Powers → NamedDesign → Type 0
-AreKnown kinds powers d = (s : NamedNet) (j : NamedJoint) → Contains (statements d) s → Contains s.joints j → is_no_component j.comp ≡ false → IsPinOf kinds d j.comp j.pin ⊎ IsSupplyOf powers d j.comp j.pin
+AreKnown kinds powers d = (s : NamedNet) (j : NamedJoint) → Contains (statements d) s → Contains s.joints j → is_no_component j.comp ≡ false → IsPinOf kinds d j.comp j.pin ⊎ IsSupplyPinOf powers d j.comp j.pin
 
 -- no pin of a component is on two nets, supply pins aside
 abbrev pub OnOneNet : Kinds → NamedDesign → Type 0
@@ -104,7 +107,7 @@ OneNet = (kinds : Kinds) (text : List ℕ) (d : Design) → IsReadingOf text d �
 abbrev pub TopsAgreeIs : Type 0
 TopsAgreeIs = (kinds : Kinds) (powers : Powers) (text : List ℕ) (d : Design) → IsReadingOf text d →
     (list_all (is_right (named text d)) (joints text d) ≡ true) ↔ (((p : PinPlace) → Contains (joints text d) p → is_no_component p.comp ≡ true → NamesPin kinds powers (named text d) p)
-        × ((p : PinPlace) → Contains (places text d) p → p.comp ≡ top_word → IsSecond kinds (named text d) (places text d) p → ⊥))
+    × ((p : PinPlace) → Contains (places text d) p → p.comp ≡ top_word → IsSecond kinds (named text d) (places text d) p → ⊥))
 
 -- Where each joint of a component is known and no pin of one is on two nets, and the joints that name no component are right,
 -- no joint is unknown and no place differs.
