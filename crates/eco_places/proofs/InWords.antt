@@ -1,6 +1,6 @@
 -- What the tests of pins say in words.
-use Rattle.std.proofs.Common.{◌≡◌, ◌≢◌, ℕ, Bool, true, false, cond, not, ◌&&◌, ◌||◌, List, [], ◌∷◌, Option, Some, None, refl, sym, ap, ◌∙◌, subst, inl, inr, ⊎_elim, ◌⊎◌, true≢false}
-use Rattle.std.specs.List.{Contains, list_any, find}
+use Rattle.std.proofs.Common.{◌≡◌, Bool, true, false, cond, not, ◌&&◌, ◌||◌, List, Option, Some, None, refl, sym, ap, ◌∙◌, subst, inl, inr, ⊎_elim, ◌⊎◌, true≢false}
+use Rattle.std.specs.List.{Contains, find}
 use Rattle.std.specs.Option.{option_map}
 use Rattle.std.specs.Str.{bytes_eq}
 use Rattle.std.proofs.lemmas.Bool.{cases_Bool, and_parts, and_from}
@@ -10,13 +10,13 @@ use Rattle.eco_net.specs.Netlist.{Name, Kind}
 use Rattle.eco_net.proofs.Basics.{Has, contains_from_has, has_from_contains, same_Some, not_None}
 use Rattle.eco_full.specs.Netlists.{Kinds, Powers, pin_names}
 use Rattle.eco_full.specs.Described.{NamesOnce}
-use Rattle.eco_full.specs.Building.{IsPinOf}
+use Rattle.eco_full.specs.Building.{IsSupplyPinOf}
 use Rattle.eco_full.proofs.Names.{same_name, is_name}
 use Rattle.eco_full.proofs.Members.{any_has, has_any, found_passes, passes_found}
 use Rattle.eco_places.specs.Places.{PinPlace, top_word, every_word}
 use Rattle.eco_places.specs.Pins.{Parts, parts_of, of_named, has_signal, is_signal_of, is_supply_of, is_signal_top, is_supply_top, is_signal, is_supply}
 use Rattle.eco_places.specs.Faults.{is_every, is_unknown}
-use Rattle.eco_places.specs.Laws.{IsSupplyPinOf, NamesPin, EachPin, TopPin, SignalPin, SupplyPin, IsSignal, OfTop, OfComp}
+use Rattle.eco_places.specs.Laws.{NamesPin, EachPin, TopPin, SignalPin, SupplyPin, IsSignal, OfTop, OfComp}
 
 -- ---- tests
 

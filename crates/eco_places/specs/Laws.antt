@@ -5,10 +5,10 @@ use Rattle.eco_def.specs.declared.design.Design.{Design}
 use Rattle.eco_def.specs.Named.{NamedComp, NamedPin, NamedJoint, NamedNet, NamedDesign}
 use Rattle.eco_def.specs.Sections.{IsReadingOf}
 use Rattle.eco_issued.specs.Changes.{is_no_component}
-use Rattle.eco_net.specs.Netlist.{Name, Kind}
+use Rattle.eco_net.specs.Netlist.{Name, Kind, Netlist}
 use Rattle.eco_full.specs.Netlists.{Kinds, Powers, statements, pin_names}
 use Rattle.eco_full.specs.Described.{IsOn}
-use Rattle.eco_full.specs.Building.{IsPinOf}
+use Rattle.eco_full.specs.Building.{IsPinOf, IsSupplyPinOf, IsListed, HasUnknownPin, HasPinOnTwo}
 use Rattle.eco_places.specs.Places.{PinPlace, top_word, every_word, joints, places}
 use Rattle.eco_places.specs.Faults.{named, first_unknown, first_differing, first_pattern, is_right}
 
@@ -26,13 +26,6 @@ FirstIs P ps None = (q : PinPlace) → Contains ps q → P q → ⊥
 FirstIs P ps (Some p) = IsFirst P ps p
 
 -- ---- joints of no pin
-
--- a component of the design has this name, and its macro has the pin as a supply pin
-pub record IsSupplyPinOf (powers : Powers) (d : NamedDesign) (comp pin : Name) : Type 0 where
-  pub of : NamedComp
-  pub found : Contains d.comps of
-  pub same : of.name ≡ comp
-  pub supply : powers of.model pin ≡ true
 
 -- What a joint names: every component that has the pin (in SPECIALNETS alone), a top pin, a pin of a component, or a supply pin
 -- of one.
@@ -102,6 +95,12 @@ JointsKnown = (kinds : Kinds) (powers : Powers) (text : List ℕ) (d : Design) �
 abbrev pub OneNet : Type 0
 OneNet = (kinds : Kinds) (text : List ℕ) (d : Design) → IsReadingOf text d → first_differing kinds text d ≡ None → OnOneNet kinds (named text d)
 
+-- So a design in which a joint is unknown has a first unknown joint, and one in which a pin is on two nets has a first place
+-- that differs.
+abbrev pub ReasonsFound : Type 0
+ReasonsFound = (kinds : Kinds) (powers : Powers) (text : List ℕ) (d : Design) → IsReadingOf text d →
+    (first_unknown kinds powers text d ≡ None → HasUnknownPin kinds powers (named text d) → ⊥) × (first_differing kinds text d ≡ None → HasPinOnTwo kinds (named text d) → ⊥)
+
 -- The joints that name no component are right exactly where none of them is unknown and no top pin is on two nets, supply
 -- pins aside.
 abbrev pub TopsAgreeIs : Type 0
@@ -109,8 +108,7 @@ TopsAgreeIs = (kinds : Kinds) (powers : Powers) (text : List ℕ) (d : Design) �
     (list_all (is_right (named text d)) (joints text d) ≡ true) ↔ (((p : PinPlace) → Contains (joints text d) p → is_no_component p.comp ≡ true → NamesPin kinds powers (named text d) p)
     × ((p : PinPlace) → Contains (places text d) p → p.comp ≡ top_word → IsSecond kinds (named text d) (places text d) p → ⊥))
 
--- Where each joint of a component is known and no pin of one is on two nets, and the joints that name no component are right,
--- no joint is unknown and no place differs.
+-- Where a design is listed, and the joints that name no component are right, no joint is unknown and no place differs.
 abbrev pub NoneWrong : Type 0
-NoneWrong = (kinds : Kinds) (powers : Powers) (text : List ℕ) (d : Design) → IsReadingOf text d → AreKnown kinds powers (named text d) → OnOneNet kinds (named text d) → list_all (is_right (named text d)) (joints text d) ≡ true →
+NoneWrong = (kinds : Kinds) (powers : Powers) (text : List ℕ) (d : Design) (N : Netlist) → IsReadingOf text d → IsListed kinds powers (named text d) N → list_all (is_right (named text d)) (joints text d) ≡ true →
     (first_unknown kinds powers text d ≡ None) × (first_differing kinds text d ≡ None)
