@@ -1,6 +1,7 @@
 mod building;
 mod depths;
 mod pins;
+mod removal;
 mod valued;
 
 use crate::tests::building::{Row, netlist_of};

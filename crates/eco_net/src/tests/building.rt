@@ -48,7 +48,7 @@ fn register(alloc: Global) -> Result<Kind, Fail>
 }
 
 /// INV, NAND, or REG for any other name.
-pub fn kind_of(alloc: Global, master: &str) -> Result<Kind, Fail>
+pub(crate) fn kind_of(alloc: Global, master: &str) -> Result<Kind, Fail>
     ensures { IfOk result HasOwnPins }
 {
     match master {
@@ -59,7 +59,7 @@ pub fn kind_of(alloc: Global, master: &str) -> Result<Kind, Fail>
 }
 
 /// The net of a name, which is added where it isn't there. VDD and VSS are supplies.
-pub fn net_of(alloc: Global, maker: &mut NetlistMaker, name: &str) -> Result<NetId, Fail> {
+pub(crate) fn net_of(alloc: Global, maker: &mut NetlistMaker, name: &str) -> Result<NetId, Fail> {
     let supply = match name {
         "VDD" => Some(true),
         "VSS" => Some(false),
@@ -77,7 +77,7 @@ pub fn net_of(alloc: Global, maker: &mut NetlistMaker, name: &str) -> Result<Net
 }
 
 /// Adds a component, if its name is new.
-pub fn add_comp(
+pub(crate) fn add_comp(
     alloc: Global,
     maker: &mut NetlistMaker,
     name: &str,
@@ -94,7 +94,12 @@ pub fn add_comp(
 }
 
 /// Puts a pin on a net, if both are known.
-pub fn join(maker: &mut NetlistMaker, comp: CompId, pin: u32, net: NetId) -> Result<(), Fail> {
+pub(crate) fn join(
+    maker: &mut NetlistMaker,
+    comp: CompId,
+    pin: u32,
+    net: NetId,
+) -> Result<(), Fail> {
     if comp.0 < maker.comp_count()
         && net.0 < maker.net_count()
         && (pin as usize) < maker.comp(comp.0).kind.pin_count()
@@ -118,7 +123,7 @@ fn add_row(alloc: Global, maker: &mut NetlistMaker, row: &Row) -> Result<(), Fai
 }
 
 /// The netlist of these components. Its nets are numbered in the order in which pins name them.
-pub fn netlist_of(alloc: Global, rows: &[Row]) -> Result<Netlist, Fail> {
+pub(crate) fn netlist_of(alloc: Global, rows: &[Row]) -> Result<Netlist, Fail> {
     let mut maker = NetlistMaker::new(alloc)?;
     for row in rows {
         add_row(alloc, &mut maker, row)?;

@@ -95,7 +95,7 @@ fn part(maker: &mut NetlistMaker, comp: CompId, pin: u32) {
 }
 
 /// A net with its gates, a register between them, a net that two gates drive, and a gate whose output is on no net.
-fn sample(alloc: Global) -> Result<Netlist, Fail> {
+pub(crate) fn sample(alloc: Global) -> Result<Netlist, Fail> {
     let mut maker = NetlistMaker::new(alloc)?;
     for name in NETS {
         net_of(alloc, &mut maker, name)?;
