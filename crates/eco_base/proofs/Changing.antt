@@ -23,7 +23,8 @@ use Rattle.eco_issued.specs.Changes.{NewJoint, Fresh, Changes, is_nil, is_of, pi
 use Rattle.eco_base.specs.declared.pin_move.PinMove.{PinMove}
 use Rattle.eco_base.specs.declared.new_joint.NewJoint as code
 use Rattle.eco_base.specs.declared.net_changes.NetChanges.{NetChanges}
-use Rattle.eco_base.specs.PinMoves.{new_joint, named_joint, moved_pin, pin_cmp, word_bytes, marked_in, stands_in, AreInOrder, AreMarked, ArePinsApart, same_pin, are_pins_apart}
+use Rattle.eco_full.specs.Stated.{word_bytes}
+use Rattle.eco_base.specs.PinMoves.{new_joint, named_joint, moved_pin, pin_cmp, marked_in, stands_in, AreInOrder, AreMarked, ArePinsApart, same_pin, are_pins_apart}
 use Rattle.eco_base.specs.NetChanges.{coming, pins_on, pins_for, is_statement_of, fresh_of, changes_in, first_stated}
 use Rattle.eco_base.proofs.Sorting.{SameSums, Ascends, ascends_sorted, in_order_is, map_sums, filter_sums}
 use Rattle.eco_base.proofs.Orders.{eq_sym, pins_linear, names_linear, pins_ascend, precedes_is}

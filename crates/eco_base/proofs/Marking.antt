@@ -11,7 +11,8 @@ use Rattle.eco_def.specs.declared.design.Joint.{Joint}
 use Rattle.eco_def.specs.declared.design.NetStatement.{NetStatement}
 use Rattle.eco_issued.specs.Changes.{is_of}
 use Rattle.eco_base.specs.declared.pin_move.PinMove.{PinMove}
-use Rattle.eco_base.specs.PinMoves.{new_joint, moved_pin, pin_cmp, word_bytes, names_in, marked, marked_by, marked_in, stands_in, AreInOrder}
+use Rattle.eco_full.specs.Stated.{word_bytes}
+use Rattle.eco_base.specs.PinMoves.{new_joint, moved_pin, pin_cmp, names_in, marked, marked_by, marked_in, stands_in, AreInOrder}
 
 -- moves that differ in their marks alone are in order alike
 pub keeps_order : (f : PinMove → PinMove) (ms : List PinMove) → ((m : PinMove) → moved_pin (f m) ≡ moved_pin m) → AreInOrder ms → AreInOrder (map f ms)

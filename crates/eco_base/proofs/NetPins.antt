@@ -14,7 +14,8 @@ use Rattle.std.proofs.lemmas.List.Folds.{list_any-append}
 use Rattle.eco_def.specs.declared.design.NetStatement.{NetStatement}
 use Rattle.eco_def.specs.declared.design.TopPin.{TopPin}
 use Rattle.eco_base.specs.declared.pin_move.PinMove.{PinMove}
-use Rattle.eco_base.specs.PinMoves.{word_bytes, tops_net}
+use Rattle.eco_full.specs.Stated.{word_bytes}
+use Rattle.eco_base.specs.PinMoves.{tops_net}
 use Rattle.eco_issued.specs.Changes.{is_nil, once_each}
 use Rattle.eco_base.specs.NetChanges.{coming, pins_on, is_statement_of, first_stated}
 use Rattle.std.proofs.lemmas.Slice.Eq.{bytes_eq-Decides}

@@ -12,7 +12,8 @@ use Rattle.eco_def.specs.Named.{NamedDesign, NamedNet, joint_names, net_names, c
 use Rattle.eco_base.specs.declared.fault.MoveFault.TheVariants.{UnknownComponent, NotOnNet, UnknownNet}
 use Rattle.eco_base.specs.Moving.{has_comp, has_net, move_fault}
 use Rattle.eco_issued.specs.Changes.{NewJoint, is_no_component, is_of, stands, has_statement}
-use Rattle.eco_base.specs.PinMoves.{word_bytes, stands_in, names_net, tops_net, names_comp}
+use Rattle.eco_full.specs.Stated.{word_bytes}
+use Rattle.eco_base.specs.PinMoves.{stands_in, names_net, tops_net, names_comp}
 use Rattle.eco_base.specs.NetChanges.{is_statement_of, of_kind}
 use Rattle.eco_base.proofs.NetPins.{list_any-map}
 

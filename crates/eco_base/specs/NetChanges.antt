@@ -17,7 +17,8 @@ use Rattle.eco_def.specs.Known.{knows}
 use Rattle.eco_issued.specs.Changes.{Fresh, Changes, is_nil, stays_on, once_each}
 use Rattle.eco_base.specs.declared.pin_move.PinMove.{PinMove}
 use Rattle.eco_base.specs.declared.net_changes.NetChanges.{NetChanges}
-use Rattle.eco_base.specs.PinMoves.{new_joint, moved_pin, word_bytes}
+use Rattle.eco_full.specs.Stated.{word_bytes}
+use Rattle.eco_base.specs.PinMoves.{new_joint, moved_pin}
 
 -- the moves whose pins come to a net
 abbrev pub coming : List PinMove → List ℕ → List PinMove

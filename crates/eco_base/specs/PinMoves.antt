@@ -17,6 +17,7 @@ use Rattle.eco_def.specs.View.{joint_in}
 use Rattle.eco_base.specs.declared.pin_move.PinMove.{PinMove}
 use Rattle.eco_base.specs.declared.new_joint.NewJoint as code
 use Rattle.eco_issued.specs.Changes.{NewJoint, is_of, pin_of}
+use Rattle.eco_full.specs.Stated.{word_bytes}
 
 -- the joint, by its names
 abbrev pub named_joint : code.NewJoint → NewJoint
@@ -54,10 +55,6 @@ AreInOrder moves = IsStrictlySortedBy pin_cmp (map moved_pin moves)
 abbrev pub IsPlaceOf : List PinMove → NamedJoint → Option ℕ → Type 0
 IsPlaceOf moves j None = (k : ℕ) (d : PinMove) → k < length moves → moved_pin (get_or moves k d) ≡ j → ⊥
 IsPlaceOf moves j (Some i) = (i < length moves) × ((d : PinMove) → moved_pin (get_or moves i d) ≡ j)
-
--- the bytes of a word in its text
-abbrev pub word_bytes : List ℕ → Word → List ℕ
-word_bytes text w = (token text w).bytes
 
 abbrev pub names_in : List ℕ → Joint → NamedJoint
 names_in text j = joint_names (joint_in text j)

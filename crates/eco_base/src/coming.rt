@@ -5,13 +5,14 @@ ghost use Rattle.std.specs.Str.{bytes_eq};
 ghost use Rattle.std.specs.List.{list_any};
 ghost use Rattle.eco_def.specs.Known.{knows};
 ghost use Rattle.eco_issued.specs.Changes.{is_nil};
-ghost use Rattle.eco_base.specs.PinMoves.{word_bytes};
+ghost use Rattle.eco_full.specs.Stated.{word_bytes};
 ghost use Rattle.eco_base.specs.NetChanges.{coming, pins_on, pins_for, is_statement_of, first_stated};
 
-use crate::names::{Names, add_name, bytes_at, has_name};
+use crate::names::{Names, add_name, has_name};
 use crate::net_changes::{Added, NetChanges};
 use crate::pin_move::PinMove;
 use eco_def::{NetStatement, TopPin};
+use eco_full::bytes_at;
 use std::alloc::{AllocError, Global};
 use std::collections::{BTreeMap, HashMap};
 

@@ -14,13 +14,14 @@ ghost use Rattle.eco_base.specs.Overlays.{changed_edits, all_changed, section_ch
 use crate::coming::{add_first_stated, coming_pins, stated_nets, statement_gets_pins};
 use crate::fresh::{add_count, add_fresh};
 use crate::moves::{all_stay, put_in_order};
-use crate::names::{bytes_at, sort_names};
+use crate::names::sort_names;
 use crate::net_changes::NetChanges;
 use crate::overlay::Overlay;
 use crate::pin_move::PinMove;
 use crate::standing::mark_standing;
 use crate::statement::put_statement;
 use eco_def::{Design, NetStatement};
+use eco_full::bytes_at;
 use std::alloc::{AllocError, Global};
 
 /// The moves in order, and those marked whose pins stand on their nets.

@@ -6,9 +6,9 @@ ghost use Rattle.std.specs.List.Sorted.{IsPermutation};
 ghost use Rattle.eco_issued.specs.Changes.{stays_on};
 ghost use Rattle.eco_base.specs.PinMoves.{new_joint, moved_pin, pin_cmp, names_in, ArePinsApart, AreInOrder, IsPlaceOf};
 
-use crate::names::{bytes_at, is_no_component};
 use crate::pin_move::PinMove;
 use eco_def::Joint;
+use eco_full::{bytes_at, is_no_component};
 use std::cmp::Ordering;
 
 /// How a move's pin stands to another pin.

@@ -9,14 +9,15 @@ ghost use Rattle.eco_issued.specs.Changes.{is_no_component as no_component, is_o
 ghost use Rattle.eco_issued.specs.Issued.{IsOverlayOf};
 ghost use Rattle.eco_base.specs.Overlays.{IsMadeFor};
 ghost use Rattle.eco_base.specs.Moving.{Moves};
-ghost use Rattle.eco_base.specs.PinMoves.{new_joint, word_bytes, names_in, stands_in, names_net, tops_net, names_comp};
+ghost use Rattle.eco_full.specs.Stated.{word_bytes};
+ghost use Rattle.eco_base.specs.PinMoves.{new_joint, names_in, stands_in, names_net, tops_net, names_comp};
 
 use crate::fault::MoveFault;
 use crate::issuing::overlay_of;
-use crate::names::{bytes_at, is_no_component};
 use crate::overlay::Overlay;
 use crate::pin_move::PinMove;
 use eco_def::{Comp, Design, Joint, NetStatement, TopPin};
+use eco_full::{bytes_at, is_no_component};
 use std::alloc::{AllocError, Global};
 
 fn is_of(text: &[u8], joint: Joint, pin: &PinMove<'_>) -> bool

@@ -1,4 +1,4 @@
-//! Bytes of words, and sets of names.
+//! Sets of names.
 
 ghost use Rattle.std.specs.Prelude.{◌≡◌, ℕ, List, true, not, IfOk, OnOk, if◌then◌else◌};
 ghost use Rattle.std.specs.Str.{bytes_eq};
@@ -6,10 +6,7 @@ ghost use Rattle.std.specs.List.Sorted.{IsPermutation, IsSortedBy};
 ghost use Rattle.std.specs.Ordering.{is_lt, nat_cmp};
 ghost use Rattle.std.specs.Cmp.Lexicographic.{slice_cmp};
 ghost use Rattle.eco_def.specs.Known.{knows};
-ghost use Rattle.eco_issued.specs.Changes.{is_no_component as no_component};
-ghost use Rattle.eco_base.specs.PinMoves.{word_bytes};
 
-use eco_text::{Word, between};
 use std::alloc::AllocError;
 use std::collections::HashMap;
 
@@ -36,17 +33,4 @@ pub fn sort_names(names: &mut Vec<&[u8]>)
     ensures order { IsSortedBy (λ x y. is_lt (slice_cmp nat_cmp x.now y.now)) names.new.items }
 {
     names.sort_unstable();
-}
-
-pub fn bytes_at(text: &[u8], word: Word) -> &[u8]
-    ensures { result.now ≡ word_bytes text.now word }
-{
-    between(text, word.start, word.end)
-}
-
-/// Whether no component can have the name.
-pub fn is_no_component(name: &[u8]) -> bool
-    ensures { result ≡ no_component name.now }
-{
-    matches!(name, b"PIN" | b"*")
 }

@@ -1,12 +1,13 @@
 //! Which pins stand on their nets already.
 
 ghost use Rattle.std.specs.Prelude.{◌≡◌, map};
-ghost use Rattle.eco_base.specs.PinMoves.{names_in, word_bytes, marked, marked_by, marked_in, AreInOrder};
+ghost use Rattle.eco_full.specs.Stated.{word_bytes};
+ghost use Rattle.eco_base.specs.PinMoves.{names_in, marked, marked_by, marked_in, AreInOrder};
 
 use crate::moves::place_of;
-use crate::names::{bytes_at, is_no_component};
 use crate::pin_move::PinMove;
 use eco_def::{Joint, NetStatement};
+use eco_full::{bytes_at, is_no_component};
 
 /// Marks the move of a joint of a net, where it stands on that net.
 fn mark_joint(text: &[u8], joint: Joint, net: &[u8], moves: &mut [PinMove<'_>])

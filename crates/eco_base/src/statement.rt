@@ -12,10 +12,10 @@ ghost use Rattle.eco_base.specs.NetChanges.{pins_on, pins_for, changes_in};
 use crate::bytes::put;
 use crate::coming::goes_to_ordinary;
 use crate::moves::stays;
-use crate::names::bytes_at;
 use crate::net_changes::{Added, NetChanges};
 use crate::pin_move::PinMove;
 use eco_def::{Joint, NetStatement};
+use eco_full::bytes_at;
 use eco_text::between;
 use std::alloc::AllocError;
 

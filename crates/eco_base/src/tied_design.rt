@@ -8,8 +8,8 @@ ghost use Rattle.eco_full.specs.Netlists.{supply_by as value_by};
 ghost use Rattle.eco_full.specs.Stated.{named_net};
 ghost use Rattle.eco_base.specs.TiedDesigns.{IsTied, makes_supply as makes, keeps_ties as keeps, joins_components as joins, has_nets_alone as nets_alone, has_ties as ties_of, tied_by};
 
-use crate::names::{bytes_at, is_no_component};
 use eco_def::{Design, NetStatement};
+use eco_full::{bytes_at, is_no_component};
 
 fn has_special(nets: &[NetStatement]) -> bool
     ensures { result ≡ list_any (λ s. s.special) nets.now }

@@ -22,6 +22,7 @@ pub use crate::laws::{
 pub use crate::listing::list_design;
 pub use crate::macros::Macros;
 pub use crate::supplies::first_two_valued;
+pub use crate::words::{bytes_at, is_no_component};
 
 #[cfg(test)]
 mod tests;

@@ -6,6 +6,7 @@ ghost use Rattle.eco_full.specs.Stated.{word_bytes};
 
 use eco_text::{Word, between};
 
+/// The bytes of a word in its text.
 pub fn bytes_at(text: &[u8], word: Word) -> &[u8]
     ensures { result.now ≡ word_bytes text.now word }
 {

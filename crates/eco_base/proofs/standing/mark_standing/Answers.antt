@@ -1,5 +1,6 @@
 use Rattle.std.proofs.Common.{refl, ap, ◌∙◌, take, map, subst, sym}
-use Rattle.eco_base.specs.PinMoves.{word_bytes, marked_by, marked_in, AreInOrder}
+use Rattle.eco_full.specs.Stated.{word_bytes}
+use Rattle.eco_base.specs.PinMoves.{marked_by, marked_in, AreInOrder}
 use Rattle.eco_base.proofs.Marking.{keeps_order, none_marked_in, one_marked_in}
 use Rattle.eco_base.proofs.standing.mark_standing.Goals as goal
 

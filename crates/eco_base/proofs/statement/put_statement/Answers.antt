@@ -5,7 +5,8 @@ use Rattle.eco_def.specs.View.{joint_in, net_in}
 use Rattle.eco_issued.specs.Printing.{spaced}
 use Rattle.eco_issued.specs.Changes.{stays_on}
 use Rattle.eco_issued.specs.Issued.{kept_text, joint_words, tail_text}
-use Rattle.eco_base.specs.PinMoves.{new_joint, moved_pin, word_bytes}
+use Rattle.eco_full.specs.Stated.{word_bytes}
+use Rattle.eco_base.specs.PinMoves.{new_joint, moved_pin}
 use Rattle.eco_base.specs.NetChanges.{pins_for}
 use Rattle.eco_base.proofs.Writing.{on_ok, put_four, spaced_pins}
 use Rattle.eco_base.proofs.statement.put_statement.Goals as goal
