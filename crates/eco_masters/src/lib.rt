@@ -9,7 +9,6 @@ mod pins;
 mod table;
 mod unknown;
 mod used;
-mod words;
 
 pub use crate::check::check_masters;
 pub use crate::differing_master::first_differing;

@@ -5,8 +5,8 @@ ghost use Rattle.std.specs.List.{find};
 ghost use Rattle.eco_full.specs.Stated.{named_comp};
 ghost use Rattle.eco_masters.specs.Checks.{is_unknown as unknown};
 
-use crate::words::bytes_at;
 use eco_def::{Comp, Design};
+use eco_full::bytes_at;
 use eco_lef::Library;
 
 /// Whether a component's model isn't in the library.

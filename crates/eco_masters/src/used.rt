@@ -7,8 +7,8 @@ ghost use Rattle.eco_def.specs.Known.{knows};
 ghost use Rattle.eco_full.specs.Stated.{named_comps};
 ghost use Rattle.eco_masters.specs.Differing.{uses};
 
-use crate::words::bytes_at;
 use eco_def::Comp;
+use eco_full::bytes_at;
 use eco_func::Memory;
 use std::alloc::Global;
 use std::collections::HashMap;

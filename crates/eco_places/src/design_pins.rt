@@ -9,8 +9,8 @@ ghost use Rattle.eco_places.specs.Faults.{named};
 ghost use Rattle.eco_places.specs.Held.{at_name, model_by, parts_by};
 ghost use Rattle.eco_places.specs.Pins.{of_named, parts_of};
 
-use crate::words::bytes_at;
 use eco_def::{Comp, Design, TopPin};
+use eco_full::bytes_at;
 use std::alloc::{AllocError, Global};
 use std::collections::HashMap;
 

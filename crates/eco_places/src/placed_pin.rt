@@ -4,8 +4,8 @@ ghost use Rattle.std.specs.Prelude.{◌≡◌};
 ghost use Rattle.eco_places.specs.Held.{place_by};
 ghost use Rattle.eco_places.specs.Places.{joint_place, top_place};
 
-use crate::words::bytes_at;
 use eco_def::{Joint, NetStatement, TopPin};
+use eco_full::bytes_at;
 
 /// A joint of a statement, or a top pin with its net, by the words of its text.
 #[derive(Clone, Copy, Debug, Drop)]

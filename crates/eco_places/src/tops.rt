@@ -10,8 +10,9 @@ ghost use Rattle.eco_places.specs.Places.{joints, top_word};
 ghost use Rattle.std.specs.Option.{option_map};
 
 use crate::design_pins::{Tops, tops_of};
-use crate::words::{bytes_at, is_any, is_top};
+use crate::words::{is_any, is_top};
 use eco_def::{Design, Joint, NetStatement};
+use eco_full::bytes_at;
 use eco_func::Memory;
 use std::alloc::Global;
 
