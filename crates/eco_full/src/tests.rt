@@ -1,20 +1,10 @@
 //! Tests of listing a design.
 
-ghost use Rattle.std.specs.Prelude.{◌≡◌, Some, [], ◌∷◌, IfOk, codes, if◌then◌else◌};
-ghost use Rattle.std.specs.Str.{bytes_eq};
-ghost use Rattle.std.specs.Option.{option_map};
-ghost use Rattle.eco_text.specs.declared.geometry.Dir.TheVariants.{Output};
-ghost use Rattle.eco_func.specs.FunctionsFile.{find_master};
-ghost use Rattle.eco_net.specs.Netlist.{Boxed};
-ghost use Rattle.eco_net.specs.Listing.{kind_of};
-ghost use Rattle.eco_net.specs.declared.kind.Kind.TheVariants.{Gate};
-
 use crate::found_pins::find_pin;
-use crate::{DesignFault, Macros, first_two_valued, list_design};
+use crate::{DesignFault, list_design};
 use eco_def::read_def;
-use eco_func::{Functions, Memory, Name, read_functions};
-use eco_net::{BoxPin, BoxPins, Kind, NetId, NetlistMaker, PinRef};
-use eco_text::Dir;
+use eco_func::read_functions;
+use eco_net::{NetId, NetlistMaker, PinRef};
 use std::alloc::Global;
 use std::process::Abort;
 use std::test::Fail;
@@ -52,27 +42,17 @@ END NETS
 END DESIGN
 ";
 
-/// The netlist of a design text by a table of macros, or its fault.
-fn listed_by<M: Macros>(
-    rt: &impl Abort,
-    alloc: Global,
-    text: &str,
-    macros: &M,
-) -> Result<Result<NetlistMaker, DesignFault>, Fail> {
-    let text = text.as_bytes();
-    assert!(rt; text.len() <= 10000);
-    let design = read_def(alloc, text)?;
-    Ok(list_design(alloc, text, &design, macros))
-}
-
 /// The netlist of a design text, or its fault.
 fn listed(
     rt: &impl Abort,
     alloc: Global,
     text: &str,
 ) -> Result<Result<NetlistMaker, DesignFault>, Fail> {
+    let text = text.as_bytes();
+    assert!(rt; text.len() <= 10000);
+    let design = read_def(alloc, text)?;
     let functions = read_functions(alloc, FUNCTIONS.as_bytes())?;
-    listed_by(rt, alloc, text, &functions)
+    Ok(list_design(alloc, text, &design, &functions))
 }
 
 /// The net that a pin is on.
@@ -201,101 +181,5 @@ fn designs_without_a_netlist(rt: HostRuntime) -> Result<(), Fail> {
         let fault = listed(&rt, alloc, text.as_str())?.err();
         assert_eq!(rt; fault, wanted, "{comps} {special} {nets}");
     }
-    Ok(())
-}
-
-/// The gates of a functions file, each with the supply pin VDD, and a box RAM with the pin Q and the supply pin VDDM.
-#[derive(Drop)]
-struct Supplied {
-    alloc: Global,
-    functions: Functions,
-}
-
-/// The pins of the box.
-fn ram_pins(alloc: Global) -> Result<BoxPins, Memory>
-    ensures { IfOk result (λ pins. pins ≡ record { name = codes "Q"; dir = Output } ∷ []) }
-{
-    let mut pins = Vec::new(alloc);
-    pins.push(BoxPin {
-        name: Name::of(alloc, b"Q")?,
-        dir: Dir::Output,
-    })?;
-    BoxPins::of(pins)
-}
-
-impl Macros for Supplied {
-    ghost kinds = { λ m name. if bytes_eq name (codes "RAM") then Some (Boxed ((codes "Q", Output) ∷ [])) else option_map (λ g. kind_of (Gate g)) (find_master name m.functions) };
-
-    ghost powers = { λ m model pin. if bytes_eq model (codes "RAM") then bytes_eq pin (codes "VDDM") else bytes_eq pin (codes "VDD") };
-
-    fn kind(&self, name: &[u8]) -> Result<Option<Kind>, Memory> {
-        if matches!(name, b"RAM") {
-            Ok(Some(Kind::Boxed(ram_pins(self.alloc)?)))
-        } else {
-            self.functions.kind(name)
-        }
-    }
-
-    fn is_supply(&self, model: &[u8], pin: &[u8]) -> bool {
-        if matches!(model, b"RAM") {
-            matches!(pin, b"VDDM")
-        } else {
-            matches!(pin, b"VDD")
-        }
-    }
-}
-
-/// Statements in NETS of a gate u1 and a box m1 with supply pins, and the fault.
-const SUPPLIED: [(&str, Option<DesignFault>); 7] = [
-    ("- a ( u1 A ) ( m1 Q ) ( u1 VDD ) ( m1 VDDM ) ;", None),
-    ("- a ( u1 VDD ) ; - b ( u1 VDD ) ;", None),
-    ("- a ( m1 VDDM ) ; - b ( m1 VDDM ) ( u1 Y ) ;", None),
-    ("- a ( m1 VDD ) ;", Some(DesignFault::UnknownPin)),
-    ("- a ( u1 VPP ) ;", Some(DesignFault::UnknownPin)),
-    ("- a ( u9 VDD ) ;", Some(DesignFault::UnknownPin)),
-    (
-        "- a ( m1 Q ) ; - b ( m1 Q ) ;",
-        Some(DesignFault::PinNetDiffers),
-    ),
-];
-
-#[test]
-fn supply_pins_are_passed_over(rt: HostRuntime) -> Result<(), Fail> {
-    let alloc = rt.alloc();
-    let macros = Supplied {
-        alloc,
-        functions: read_functions(alloc, FUNCTIONS.as_bytes())?,
-    };
-    for (nets, wanted) in SUPPLIED {
-        let text = format!(in alloc;
-            "UNITS DISTANCE MICRONS 1 ; COMPONENTS 2 ; - u1 INV ; - m1 RAM ; END COMPONENTS \
-             SPECIALNETS 1 ; - VDD ( u1 VDD ) ( m1 VDDM ) + USE POWER ; END SPECIALNETS \
-             NETS 1 ; {nets} END NETS END DESIGN"
-        )?;
-        let listed = listed_by(&rt, alloc, text.as_str(), &macros)?;
-        if let Ok(maker) = &listed {
-            assert_eq!(rt; net_of(maker, "u1", "VDD"), None, "{nets}");
-        }
-        assert_eq!(rt; listed.err(), wanted, "{nets}");
-    }
-    Ok(())
-}
-
-#[test]
-fn the_first_net_of_two_values(rt: HostRuntime) -> Result<(), Fail> {
-    let alloc = rt.alloc();
-    let text = b"UNITS DISTANCE MICRONS 1 ; COMPONENTS 0 ; END COMPONENTS \
-        SPECIALNETS 2 ; - a + USE POWER ; - b + USE GROUND ; END SPECIALNETS \
-        NETS 3 ; - c + USE POWER ; - b + USE POWER ; - a + USE GROUND ; END NETS END DESIGN";
-    let design = read_def(alloc, text)?;
-    assert_eq!(rt;
-        first_two_valued(alloc, text, design.nets.as_slice())?,
-        Some(b"b".as_slice())
-    );
-    let design = read_def(alloc, TEXT.as_bytes())?;
-    assert_eq!(rt;
-        first_two_valued(alloc, TEXT.as_bytes(), design.nets.as_slice())?,
-        None
-    );
     Ok(())
 }
