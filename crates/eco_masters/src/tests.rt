@@ -5,7 +5,7 @@ use eco_def::read_def;
 use eco_full::{Macros, list_design};
 use eco_func::read_functions;
 use eco_lef::{Library, read_lef};
-use eco_net::Kind;
+use eco_net::{Counts, Kind};
 use std::alloc::Global;
 use std::process::Abort;
 use std::test::Fail;
@@ -148,6 +148,20 @@ END NETS
 END DESIGN
 ";
 
+/// How many nets, components and top pins the netlist of a design has.
+fn counts_of(
+    rt: &impl Abort,
+    alloc: Global,
+    text: &str,
+    table: &MasterTable<'_>,
+) -> Result<Counts, Fail> {
+    let text = text.as_bytes();
+    assert!(rt; text.len() <= 10000);
+    let design = read_def(alloc, text)?;
+    let maker = list_design(alloc, text, &design, table)?;
+    Ok(maker.counts())
+}
+
 #[test]
 fn kinds_of_a_small_library(rt: HostRuntime) -> Result<(), Fail> {
     let alloc = rt.alloc();
@@ -165,10 +179,7 @@ fn kinds_of_a_small_library(rt: HostRuntime) -> Result<(), Fail> {
             "{model}/{pin}"
         );
     }
-    let text = DESIGN.as_bytes();
-    let design = read_def(alloc, text)?;
-    let maker = list_design(alloc, text, &design, &table)?;
-    let counts = maker.counts();
+    let counts = counts_of(&rt, alloc, DESIGN, &table)?;
     assert_eq!(rt; (counts.nets, counts.comps, counts.tops), (2, 2, 0));
     Ok(())
 }
