@@ -14,7 +14,7 @@ use Rattle.eco_full.proofs.Members.{passes_found}
 use Rattle.eco_places.specs.Places.{PinPlace}
 use Rattle.eco_places.specs.Pins.{parts_of, is_signal}
 use Rattle.eco_places.specs.Faults.{is_of, first_net, differs, is_on_second}
-use Rattle.eco_places.specs.Laws.{IsFirst, FirstIs, IsSamePin, IsSecond}
+use Rattle.eco_places.specs.Laws.{IsFirst, FirstIs, IsSamePin, IsSecond, FirstTold}
 use Rattle.eco_places.proofs.First.{first_is, same_first}
 use Rattle.eco_places.proofs.Finding.{first_found}
 use Rattle.eco_places.proofs.InWords.{signal_said, to_signal}
@@ -79,3 +79,6 @@ module _ (kinds : Kinds) (powers : Powers) (d : NamedDesign) (once : NamesOnce d
 
   pub seconds : FirstIs (IsSecond kinds d ps) ps (find (is_on_second kinds (parts_of d) ps) ps)
   seconds = first_is (IsSecond kinds d ps) (is_on_second kinds (parts_of d) ps) ps second_said is_second
+
+pub first_told : FirstTold
+first_told kinds d ps p s = net_of_first ps p s.first s.is_first

@@ -10,7 +10,7 @@ use Rattle.eco_full.specs.Netlists.{Kinds, Powers, statements, pin_names}
 use Rattle.eco_full.specs.Described.{IsOn}
 use Rattle.eco_full.specs.Building.{IsPinOf, IsSupplyPinOf, IsListed, HasUnknownPin, HasPinOnTwo}
 use Rattle.eco_places.specs.Places.{PinPlace, top_word, every_word, joints, places}
-use Rattle.eco_places.specs.Faults.{named, first_unknown, first_differing, first_pattern, is_right}
+use Rattle.eco_places.specs.Faults.{named, first_net, first_unknown, first_differing, first_pattern, is_right}
 
 -- the first of these places at which a fact holds: at no place before it does it hold
 pub record IsFirst (P : PinPlace → Type 0) (ps : List PinPlace) (p : PinPlace) : Type 0 where
@@ -61,6 +61,10 @@ pub record IsSecond (kinds : Kinds) (d : NamedDesign) (ps : List PinPlace) (p : 
 abbrev pub DifferingIs : Type 0
 DifferingIs = (kinds : Kinds) (text : List ℕ) (d : Design) → IsReadingOf text d →
     FirstIs (IsSecond kinds (named text d) (places text d)) (places text d) (first_differing kinds text d)
+
+-- the first net that is told of such a place is that at its pin's first place
+abbrev pub FirstTold : Type 0
+FirstTold = (kinds : Kinds) (d : NamedDesign) (ps : List PinPlace) (p : PinPlace) (s : IsSecond kinds d ps p) → first_net ps p.comp p.pin ≡ Some s.first.net
 
 -- ---- patterns
 

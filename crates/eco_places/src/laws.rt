@@ -1,5 +1,6 @@
 ghost use Rattle.eco_places.specs.Laws.{
   DifferingIs,
+  FirstTold,
   JointsKnown,
   NoneWrong,
   OneNet,
@@ -17,6 +18,11 @@ pub fn unknown_is()
 /// A law: the place that differs is the first on another net than at its pin's first place, supply pins aside.
 pub fn differing_is()
     ensures { DifferingIs }
+{}
+
+/// A law: the first net that is told of that place is the one at its pin's first place.
+pub fn first_told()
+    ensures { FirstTold }
 {}
 
 /// A law: the first pattern is the first joint of `*` in SPECIALNETS with a pin that isn't supply.

@@ -19,8 +19,8 @@ mod words;
 
 pub use crate::faults::{Pattern, TwoNets, UnknownPin};
 pub use crate::laws::{
-    differing_is, joints_known, none_wrong, one_net, pattern_is, reasons_found, tops_agree_is,
-    unknown_is,
+    differing_is, first_told, joints_known, none_wrong, one_net, pattern_is, reasons_found,
+    tops_agree_is, unknown_is,
 };
 pub use crate::pattern::find_pattern;
 pub use crate::tops::tops_agree;
