@@ -15,6 +15,10 @@ use Rattle.eco_net.specs.Netlist.{Name, Kind, Component, Top, Netlist, pins_of}
 abbrev pub Kinds : Type 0
 Kinds = Name → Option Kind
 
+-- Whether a macro, by its name, has this pin as a supply pin (USE POWER or GROUND). Supply pins are in no netlist.
+abbrev pub Powers : Type 0
+Powers = Name → Name → Bool
+
 -- the statements of SPECIALNETS, and then those of NETS
 abbrev pub statements : NamedDesign → List NamedNet
 statements d = d.special ++ d.nets

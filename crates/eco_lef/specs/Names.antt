@@ -15,6 +15,10 @@ abbrev pub HaveDistinctPins : List Master → Type 0
 HaveDistinctPins [] = Unit {0}
 HaveDistinctPins (m ∷ ms) = AreDistinct (pin_names m.pins) × HaveDistinctPins ms
 
+-- no two masters have one name, and no two pins of a master
+abbrev pub HaveOwnNames : List Master → Type 0
+HaveOwnNames masters = AreDistinct (names_of masters) × HaveDistinctPins masters
+
 -- In a library no two masters have one name, and no two pins of a master.
 abbrev pub NamesDiffer : Type 0
-NamesDiffer = (text : List ℕ) (masters : List Master) → library_of text ≡ Ok masters → AreDistinct (names_of masters) × HaveDistinctPins masters
+NamesDiffer = (text : List ℕ) (masters : List Master) → library_of text ≡ Ok masters → HaveOwnNames masters

@@ -29,7 +29,7 @@ impl Model for Library {
 impl Library {
     ghost use Rattle.std.specs.Prelude.{◌≡◌, [], ◌∷◌, ◌++◌, length, option_copied, IfOk};
     ghost use Rattle.eco_lef.specs.Parsing.{is_among};
-    ghost use Rattle.eco_lef.specs.Known.{names_of};
+    ghost use Rattle.eco_lef.specs.Known.{names_of, first_place};
     ghost use Rattle.eco_lef.specs.Collected.{find_master};
 
     pub(crate) fn new(alloc: Global) -> Library
@@ -72,6 +72,14 @@ impl Library {
         ensures { result.now ≡ self.now }
     {
         self.masters.as_slice()
+    }
+
+    /// The place of the master of a name, from 0 in the order of the text.
+    pub fn place(&self, name: &[u8]) -> Option<usize>
+        ensures { result ≡ first_place (names_of self.now) name.now }
+    {
+        let _masters = &self.masters;
+        self.places.get(name).copied()
     }
 
     /// The master of a name.

@@ -3,6 +3,7 @@
 ghost use Rattle.std.specs.Prelude.{◌≡◌, ◌≤◌, length, Ok, IfOk, IfErr};
 ghost use Rattle.eco_lef.specs.Grammar.{library_within};
 ghost use Rattle.eco_lef.specs.Limits.{IsLibraryOf};
+ghost use Rattle.eco_lef.specs.Names.{HaveOwnNames};
 ghost use Rattle.eco_lef.specs.Reading.{Refuses};
 
 use crate::fault::LefFault;
@@ -17,6 +18,7 @@ use std::alloc::Global;
 pub fn read_lef(alloc: Global, text: &[u8]) -> Result<Library, LefFault>
     requires { length text.now ≤ 67108864 }
     ensures library { IfOk result (IsLibraryOf 16384 text.now) }
+    ensures names { IfOk result HaveOwnNames }
     ensures masters { IfOk result (λ masters. library_within 16384 text.now ≡ Ok masters) }
     ensures fault { IfErr result (λ e. Refuses (library_within 16384 text.now) e) }
 {
