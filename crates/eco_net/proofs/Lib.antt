@@ -23,6 +23,7 @@ pub mod AllPins
 pub mod DriverNames
 pub mod ByNets
 pub mod KindPins
+mod HasPin
 pub mod GateNames
 pub mod InputPins
 pub mod Searching

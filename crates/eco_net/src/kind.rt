@@ -1,9 +1,11 @@
 //! What a component is: a gate, or a box with pins.
 
-ghost use Rattle.std.specs.Prelude.{◌≡◌, ◌<◌, Some, length, slice_get, IfOk};
+ghost use Rattle.std.specs.Prelude.{◌≡◌, ◌<◌, ◌||◌, Some, length, slice_get, IfOk};
+ghost use Rattle.std.specs.List.{list_any};
 ghost use Rattle.std.specs.Option.{option_map};
+ghost use Rattle.std.specs.Str.{bytes_eq};
 
-use eco_func::{MasterFn, Memory, Name, Table};
+use eco_func::{MasterFn, Memory, Name, OutputFn, Table};
 use eco_text::Dir;
 use std::marker::Model;
 use std::sync::ArcSlice;
@@ -143,6 +145,22 @@ impl Kind {
 }
 
 impl Kind {
+    ghost use Rattle.std.specs.Prelude.{map};
+    ghost use Rattle.eco_net.specs.Netlist.{pins_of};
+    ghost use Rattle.eco_net.specs.Listing.{kind_of};
+
+    /// Whether it has a pin of this name.
+    pub fn has_pin(&self, name: &[u8]) -> bool
+        ensures { result ≡ list_any (λ p. bytes_eq p name.now) (map (λ p. p.0) (pins_of (kind_of self.now))) }
+    {
+        match self {
+            Kind::Gate(master) => gate_has(master, name),
+            Kind::Boxed(pins) => box_has(pins.as_slice(), name),
+        }
+    }
+}
+
+impl Kind {
     ghost use Rattle.std.specs.Prelude.{map, ◌^◌};
     ghost use Rattle.eco_net.specs.Netlist.{pins_of};
     ghost use Rattle.eco_net.specs.Listing.{kind_of, FindsName};
@@ -159,6 +177,32 @@ impl Kind {
         }
         None
     }
+}
+
+fn is_among(names: &[Name], name: &[u8]) -> bool
+    ensures { result ≡ list_any (λ p. bytes_eq p name.now) names.now }
+{
+    names.iter().any(|pin| pin.is(name))
+}
+
+fn is_output(outputs: &[OutputFn], name: &[u8]) -> bool
+    ensures { result ≡ list_any (λ o. bytes_eq o.pin name.now) outputs.now }
+{
+    outputs.iter().any(|output| output.pin.is(name))
+}
+
+/// Whether a gate has a pin of this name.
+fn gate_has(master: &MasterFn, name: &[u8]) -> bool
+    ensures { result ≡ (list_any (λ p. bytes_eq p name.now) master.now.inputs || list_any (λ o. bytes_eq o.pin name.now) master.now.outputs) }
+{
+    is_among(master.inputs(), name) || is_output(master.outputs(), name)
+}
+
+/// Whether a box has a pin of this name.
+fn box_has(pins: &[BoxPin], name: &[u8]) -> bool
+    ensures { result ≡ list_any (λ p. bytes_eq p.name name.now) pins.now }
+{
+    pins.iter().any(|pin| pin.name.is(name))
 }
 
 impl PinUse {
