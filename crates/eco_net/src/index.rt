@@ -2,13 +2,13 @@
 
 use eco_func::Memory;
 use std::alloc::Global;
-use std::collections::BTreeMap;
+use std::collections::HashMap;
 use std::marker::Model;
 
 /// The place of each name.
 #[derive(Drop)]
 pub struct NameIndex {
-    places: BTreeMap<Vec<u8>, u32>,
+    places: HashMap<Vec<u8>, u32>,
 }
 
 impl Model for NameIndex {
@@ -34,7 +34,7 @@ impl NameIndex {
         ensures { result ≡ map.empty }
     {
         NameIndex {
-            places: BTreeMap::new(alloc),
+            places: HashMap::new(alloc),
         }
     }
 
