@@ -1,13 +1,14 @@
 //! The digest of a base's texts.
 
 ghost use Rattle.std.specs.Prelude.{◌≡◌, ◌++◌, List, ℕ};
+ghost use Rattle.sha2.specs.Hashers.{Holds256};
 ghost use Rattle.eco_opening.specs.Digests.{framed, digest_of as the_digest_of};
 
 use sha2::{Digest, Sha256};
 
 /// Feeds a text behind its length.
 fn feed(hasher: &mut Sha256, text: &[u8])
-    ensures { (fed : List ℕ) → Sha256.holds hasher.old fed → Sha256.holds hasher.new (fed ++ framed text.now) }
+    ensures { (fed : List ℕ) → Holds256 hasher.old fed → Holds256 hasher.new (fed ++ framed text.now) }
 {
     let length = text.len() as u64;
     hasher.update(length.to_be_bytes().as_slice());

@@ -2,6 +2,10 @@
 #![tactic(auto)]
 
 mod digest;
+mod fault;
 mod free_stock;
+mod reading;
+mod texts;
 
+pub use crate::fault::BaseFault;
 pub use crate::free_stock::FreeStock;
