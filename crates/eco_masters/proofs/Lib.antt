@@ -1,0 +1,5 @@
+pub mod Leasts
+pub mod OddPins
+pub mod Firsts
+pub mod MadeKinds
+pub mod ByNames
