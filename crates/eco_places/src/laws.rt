@@ -1,0 +1,46 @@
+ghost use Rattle.eco_places.specs.Laws.{
+  DifferingIs,
+  JointsKnown,
+  NoneWrong,
+  OneNet,
+  PatternIs,
+  TopsAgreeIs,
+  UnknownIs,
+};
+
+/// A law: the first unknown joint is the first that names no pin.
+pub fn unknown_is()
+    ensures { UnknownIs }
+{}
+
+/// A law: the place that differs is the first on another net than at its pin's first place, supply pins aside.
+pub fn differing_is()
+    ensures { DifferingIs }
+{}
+
+/// A law: the first pattern is the first joint of `*` in SPECIALNETS with a pin that isn't supply.
+pub fn pattern_is()
+    ensures { PatternIs }
+{}
+
+/// A law: where no joint is unknown, each joint of a component is of its pin or of its supply pin.
+pub fn joints_known()
+    ensures { JointsKnown }
+{}
+
+/// A law: where no place differs, no pin of a component is on two nets, supply pins aside.
+pub fn one_net()
+    ensures { OneNet }
+{}
+
+/// A law: the joints that name no component are right exactly where none of them is unknown and no top pin is on two nets,
+/// supply pins aside.
+pub fn tops_agree_is()
+    ensures { TopsAgreeIs }
+{}
+
+/// A law: where each joint of a component is known, no pin of one is on two nets, and the joints that name no component are
+/// right, no joint is unknown and no place differs.
+pub fn none_wrong()
+    ensures { NoneWrong }
+{}
