@@ -1,1 +1,3 @@
 pub mod ReadingFaults
+pub mod Clean
+pub mod Fitting

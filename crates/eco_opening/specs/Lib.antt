@@ -1,3 +1,4 @@
 pub mod Digests
 pub mod Texts
 pub mod TextFaults
+pub mod Joined

@@ -4,6 +4,7 @@
 mod digest;
 mod fault;
 mod free_stock;
+mod joining;
 mod reading;
 mod texts;
 
