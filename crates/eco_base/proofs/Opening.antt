@@ -25,6 +25,7 @@ use Rattle.eco_full.specs.Described.{IsSupply}
 use Rattle.eco_full.specs.Building.{IsFault, IsListed}
 use Rattle.eco_full.proofs.Members.{has_of_append}
 use Rattle.eco_full.proofs.Telling.{netlist_is}
+use Rattle.eco_full.proofs.Unpowered.{pin_joint, one_net_each}
 use Rattle.eco_base.specs.declared.gate_fault.GateFault.{GateFault}
 use Rattle.eco_base.specs.declared.gate_fault.GateFault.TheVariants.{Def, Func, NotYet, Memory}
 use Rattle.eco_base.specs.Gates.{gate_kinds, netlist_of_gates, IsGateDesign}
@@ -46,13 +47,13 @@ in_statements d s c = contains_from_has (statements d) s (has_append_right d.spe
 module _ (functions : List MasterTables) (low high : Name) where
   -- each reason but want of memory shows that the design is none of gates
   pub refuted : (text : List ℕ) (design : said.Design) → design_of text ≡ Ok design → IsTied low high (names_of design)
-      → (e : DesignFault) → (e ≡ NoRoom → ⊥) → IsFault (gate_kinds functions) (names_of design) e → IsJoined functions (names_of design) → ⊥
+      → (e : DesignFault) → (e ≡ NoRoom → ⊥) → IsFault (gate_kinds functions) (λ model pin. false) (names_of design) e → IsJoined functions (names_of design) → ⊥
   refuted text design read tied UnknownMacro other (c, has, none) is = not_None (sym (is.models c has).1 ∙ none)
-  refuted text design read tied UnknownPin other (s, j, of, has, component, unknown) is =
+  refuted text design read tied UnknownPin other (s, j, of, has, component, unknown, no_supply) is =
       let d = names_of design in
       let p = is.joints s j (contains_from_has d.nets s (of_nets d tied.no_special s of)) has in
       unknown (record { of = p.comp; kind = p.kind; found = p.found; same = p.same; known = p.known; has = p.pin })
-  refuted text design read tied PinNetDiffers other (c, p, n, m, on, too, differ) is = differ (is.one_net c p n m on too)
+  refuted text design read tied PinNetDiffers other (c, p, n, m, pin, on, too, differ) is = differ (is.one_net c p n m on too)
   refuted text design read tied SupplyDiffers other (n, (s, of, same, one), (t, also, too, zero)) is =
       let d = names_of design in
       let once : s ≡ t = nets_once text design read s t (of_nets d tied.no_special s of) (of_nets d tied.no_special t also) (same ∙ sym too) in
@@ -89,15 +90,15 @@ module _ (functions : List MasterTables) (low high : Name) where
 
   -- ---- a netlist that was listed
 
-  module _ (d : NamedDesign) (N : Netlist) (tied : IsTied low high d) (listed : IsListed (gate_kinds functions) d N) where
+  module _ (d : NamedDesign) (N : Netlist) (tied : IsTied low high d) (listed : IsListed (gate_kinds functions) (λ model pin. false) d N) where
     pub joined : IsJoined functions d
     joined = record {
       models = listed.models;
       joints = λ s j of has.
           let named = tied.named s j of has in
-          let p = listed.joints s j (in_statements d s of) has named in
+          let p = pin_joint (gate_kinds functions) d N listed s j (in_statements d s of) has named in
           record { comp = p.of; kind = p.kind; named = named; found = p.found; same = p.same; known = p.known; pin = p.has };
-      one_net = listed.one_net;
+      one_net = one_net_each (gate_kinds functions) d N listed;
     }
 
     is_net : (n : Name) (b : Bool) → IsSupply d n b → IsNet N n

@@ -6,14 +6,15 @@ use Rattle.std.specs.Str.{bytes_eq}
 use Rattle.std.specs.Cmp.Lexicographic.{nat_list_cmp_total}
 use Rattle.std.specs.FinMap.{get, insert, empty, get-insert}
 use Rattle.std.proofs.lemmas.Option.{slice_get-map}
-use Rattle.std.proofs.lemmas.List.{take_more, map_push, length_push, length-append, append-nil}
+use Rattle.std.proofs.lemmas.List.{take_more, map_push, map-append, length_push, length-append, append-nil}
 use Rattle.std.proofs.lemmas.List.Folds.{list_any-append}
 use Rattle.eco_text.specs.declared.geometry.Point.{Point}
 use Rattle.eco_def.specs.Named.{NamedComp}
 use Rattle.eco_net.specs.declared.kind.Kind.{Kind as Given}
 use Rattle.eco_net.specs.declared.rows.NetRow.{NetRow}
+use Rattle.eco_net.specs.declared.rows.CompRow.{CompRow}
 use Rattle.eco_net.specs.Netlist.{Name, Component, Netlist, pins_of}
-use Rattle.eco_net.specs.Listing.{Listing, netlist, net_names, kind_of, AreApart}
+use Rattle.eco_net.specs.Listing.{Listing, netlist, net_names, comp_names, kind_of, AreApart}
 use Rattle.eco_net.specs.Kept.{IsListing}
 use Rattle.eco_net.proofs.Basics.{Has, contains_from_has, has_from_contains, has_of_map, has_append_left, has_append_right, get_same, get_other, same_Some, not_None}
 use Rattle.eco_net.proofs.Effects.{net_is_added, comp_is_added, net_is}
@@ -117,6 +118,7 @@ module _ (kinds : Kinds) where
     comps = λ before are. subst (λ cs. CompsAre kinds cs (netlist L)) (sym (append-nil before)) are;
     others = refl;
     rows = refl;
+    names = sym (append-nil (comp_names L));
     count = omega arith;
   }
 
@@ -125,6 +127,9 @@ module _ (kinds : Kinds) where
     comps = λ before are. subst (λ cs. CompsAre kinds cs (netlist N)) (append_assoc before xs ys) (b.comps (before ++ xs) (a.comps before are));
     others = b.others ∙ ap (λ (m : Netlist). record m { comps = (netlist N).comps }) a.others;
     rows = b.rows ∙ ap (λ (m : Listing). record m { comps = N.comps }) a.rows;
+    names =
+        b.names ∙ ap (λ ns. ns ++ map (λ (c : NamedComp). c.name) ys) a.names ∙ append_assoc (comp_names L) (map (λ (c : NamedComp). c.name) xs) (map (λ (c : NamedComp). c.name) ys)
+        ∙ ap (λ ns. comp_names L ++ ns) (sym (map-append (λ (c : NamedComp). c.name) xs ys));
     count = let f = a.count in let g = b.count in omega (arith, length-append xs ys, f, g);
   }
 
@@ -163,6 +168,7 @@ module _ (kinds : Kinds) where
           comps = λ before are. subst (CompsAre kinds (before ++ c ∷ [])) (sym change) (with_one before are);
           others = change ∙ ap (λ cs. record (netlist L) { comps = cs }) (sym (ap (λ (m : Netlist). m.comps) change));
           rows = e ∙ ap (λ cs. record L { comps = cs }) (sym (ap (λ (m : Listing). m.comps) e));
+          names = ap comp_names e ∙ map-append (λ (r : CompRow). r.name) L.comps (_ ∷ []);
           count = ap (λ (m : Listing). length m.comps) e ∙ length_push L.comps _;
         }
 

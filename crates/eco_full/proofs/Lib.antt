@@ -23,4 +23,6 @@ pub mod JoiningPins
 pub mod Assembling
 pub mod Whole
 pub mod Unchanged
+pub mod TwoValued
+pub mod Unpowered
 mod Examples

@@ -1,6 +1,7 @@
 -- The supplies that are found, statement by statement.
-use Rattle.std.proofs.Common.{◌≡◌, ℕ, ◌+◌, ◌<◌, Bool, true, false, cond, List, [], ◌∷◌, length, map, take, get_or, Option, Some, None, refl, sym, ap, ◌∙◌, ⊎_elim, if◌then◌else◌}
-use Rattle.std.specs.Option.{option_or}
+use Rattle.std.proofs.Common.{◌≡◌, ℕ, ◌+◌, ◌<◌, Bool, true, false, cond, not, List, [], ◌∷◌, length, map, take, get_or, Option, Some, None, refl, sym, ap, ◌∙◌, ⊎_elim, if◌then◌else◌}
+use Rattle.std.specs.Option.{option_map, option_or}
+use Rattle.std.specs.List.{find}
 use Rattle.std.specs.Str.{bytes_eq}
 use Rattle.std.proofs.lemmas.Bool.{cases_Bool}
 use Rattle.eco_def.specs.declared.design.NetStatement.{NetStatement}
@@ -9,6 +10,7 @@ use Rattle.eco_def.specs.Parsing.{first_some}
 use Rattle.eco_net.specs.Netlist.{Name}
 use Rattle.eco_full.specs.Netlists.{supply_by}
 use Rattle.eco_full.specs.Stated.{named_net, named_nets, supply_among}
+use Rattle.eco_full.specs.Stages.{agree, keeps_value}
 use Rattle.eco_full.proofs.Names.{same_name, or_none}
 use Rattle.eco_full.proofs.Adding.{mapped_more}
 use Rattle.eco_full.proofs.Nets.{supply_among-append}
@@ -40,3 +42,16 @@ pub value_by_more : (text : List ℕ) (ss : List NetStatement) (i : ℕ) (s : Ne
 value_by_more text ss i s n h e =
     ap (λ ts. supply_among ts n) (mapped_more (named_net text) ss i s h e)
     ∙ supply_among-append (named_nets text (take i ss)) (named_net text s ∷ []) n
+
+-- the first statement that differs is that of the statements by names
+pub differing : (text : List ℕ) (value : Name → Option Bool) (ns : List NetStatement) (ss : List NamedNet) → ((n : Name) → value n ≡ supply_among ss n) →
+    option_map (λ s. (named_net text s).name) (find (λ s. not (keeps_value value (named_net text s))) ns) ≡ option_map (λ s. s.name) (find (λ s. not (keeps_value (supply_among ss) s)) (named_nets text ns))
+differing text value [] ss values = refl
+differing text value (n ∷ ns) ss values =
+    ap (λ o. option_map (λ s. (named_net text s).name) (cond (not (agree (supply_by (named_net text n).usage) o)) (Some n) (find (λ s. not (keeps_value value (named_net text s))) ns))) (values (named_net text n).name)
+    ∙ go (find (λ s. not (keeps_value value (named_net text s))) ns) (find (λ s. not (keeps_value (supply_among ss) s)) (named_nets text ns)) (keeps_value (supply_among ss) (named_net text n)) (differing text value ns ss values)
+  where
+    go : (x : Option NetStatement) (y : Option NamedNet) (b : Bool) → option_map (λ s. (named_net text s).name) x ≡ option_map (λ s. s.name) y →
+        option_map (λ s. (named_net text s).name) (cond (not b) (Some n) x) ≡ option_map (λ s. s.name) (cond (not b) (Some (named_net text n)) y)
+    go x y true rest = rest
+    go x y false rest = refl

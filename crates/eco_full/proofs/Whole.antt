@@ -1,7 +1,6 @@
 -- The stages of listing a design, put together.
-use Rattle.std.proofs.Common.{◌≡◌, ℕ, Bool, true, false, cond, ◌&&◌, List, [], ◌∷◌, ◌++◌, map, Option, Some, None, refl, sym, ap, ◌∙◌, subst}
+use Rattle.std.proofs.Common.{◌≡◌, ℕ, Bool, true, false, cond, ◌&&◌, List, [], ◌∷◌, ◌++◌, map, Option, Some, None, refl, sym, ap, ◌∙◌, subst, ◌⊎◌}
 use Rattle.std.specs.List.{list_any, list_all}
-use Rattle.std.specs.Option.{option_map, unwrap_or}
 use Rattle.std.specs.Str.{bytes_eq}
 use Rattle.std.specs.FinMap.{get, empty, get-empty}
 use Rattle.std.proofs.lemmas.List.Folds.{list_all-map}
@@ -10,21 +9,22 @@ use Rattle.eco_def.specs.Named.{NamedComp, NamedPin, NamedNet, NamedDesign, comp
 use Rattle.eco_def.specs.View.{comp_in, pin_in, design_in}
 use Rattle.eco_def.specs.Sections.{IsReadingOf}
 use Rattle.eco_issued.specs.Changes.{NewJoint}
-use Rattle.eco_net.specs.Netlist.{Name, name_cmp, Component, Netlist, CompPin, IsNet, IsPin}
+use Rattle.eco_net.specs.Netlist.{Name, name_cmp, Component, Netlist, CompPin, IsNet}
 use Rattle.eco_net.specs.Drivers.{net_of, joined_at}
-use Rattle.eco_net.specs.Listing.{Listing, netlist, component, AreApart}
+use Rattle.eco_net.specs.declared.rows.CompRow.{CompRow}
+use Rattle.eco_net.specs.Listing as net
+use Rattle.eco_net.specs.Listing.{Listing, netlist, AreApart}
 use Rattle.eco_net.specs.Changes.{empty_netlist}
 use Rattle.eco_net.specs.Kept.{IsListing}
 use Rattle.eco_net.proofs.Basics.{Has, contains_from_has, has_from_contains, has_append_left, has_append_right, has_map, has_of_map, not_None}
-use Rattle.eco_net.proofs.Effects.{comp_is, role_is, pin_row}
 use Rattle.eco_full.specs.declared.fault.DesignFault.{DesignFault}
 use Rattle.eco_full.specs.declared.fault.DesignFault.TheVariants.{UnknownMacro, UnknownPin, PinNetDiffers, SupplyDiffers, Memory}
 use Rattle.eco_full.specs.declared.joined_pin.JoinedPin.{JoinedPin}
-use Rattle.eco_full.specs.Netlists.{Kinds, supply_by}
+use Rattle.eco_full.specs.Netlists.{Kinds, Powers, supply_by}
 use Rattle.eco_full.specs.Stated.{named_comp, named_pin, named_net, named_comps, named_pins, named_nets, supply_among, all_pins_on}
 use Rattle.eco_full.specs.Joints.{IsRewired, OneNetEach}
 use Rattle.eco_full.specs.Building.{IsListed, IsFault}
-use Rattle.eco_full.specs.Stages.{agree, keeps_value, NetsAre, CompsAre, TopsAre, MacroFault, PinFault, JoinFault, comp_name, pin_name, joint_of, IsKnownJoint, net_names, AddsNets, AddsComps, AddsTops, NetsListed, PartsListed, FindsPins, JoinsPins}
+use Rattle.eco_full.specs.Stages.{agree, keeps_value, NetsAre, CompsAre, TopsAre, MacroFault, IsUnknownJoint, has_pin, known_pins, has_supply_pin, PinFault, JoinFault, net_names, AddsNets, AddsComps, AddsTops, NetsListed, PartsListed, FindsPins, JoinsPins}
 use Rattle.eco_full.proofs.Names.{is_name}
 use Rattle.eco_full.proofs.Members.{has_any}
 use Rattle.eco_full.proofs.Adding.{nets_added}
@@ -71,6 +71,8 @@ pub parts_listed : (kinds : Kinds) (value : Name → Option Bool) (text : List �
 parts_listed kinds value text d L M N nets a b = record {
   nets = subst (NetsAre value (net_names text d)) (sym b.others) (subst (NetsAre value (net_names text d)) (sym a.others) nets.nets);
   comps = comps_stay kinds (named_comps text d.comps) (netlist M) (netlist N) (ap (λ (m : Netlist). m.comps) b.others) (a.comps [] (no_comps kinds (netlist L) (ap (λ (m : Netlist). m.comps) nets.others)));
+  numbers =
+      ap (λ (m : Listing). net.comp_names m) b.rows ∙ a.names ∙ ap (λ rows. map (λ (r : CompRow). r.name) rows ++ map (λ (c : NamedComp). c.name) (named_comps text d.comps)) nets.no_comps;
   tops = b.tops [] (no_tops (netlist M) (ap (λ (m : Netlist). m.tops) a.others ∙ ap (λ (m : Netlist). m.tops) nets.others));
   ties = ap (λ (m : Netlist). m.ties) b.others ∙ ap (λ (m : Netlist). m.ties) a.others ∙ ap (λ (m : Netlist). m.ties) nets.others;
   reserved = ap (λ (m : Netlist). m.reserved) b.others ∙ ap (λ (m : Netlist). m.reserved) a.others ∙ ap (λ (m : Netlist). m.reserved) nets.others;
@@ -127,42 +129,40 @@ module _ (text : List ℕ) (d : Design) where
         go None e = ap (λ o. joined_at o p) e
         go (Some x) e = let a = are.only c x e in ap (λ o. joined_at o p) e ∙ ap (λ m. get m p) a.3.joined ∙ get-empty name_cmp p
 
-    -- a known pin is one of a component
-    known_joint : (L : Listing) → IsListing L → (p : JoinedPin) → IsKnownJoint L p → (x : Component) × (get (netlist L).comps (joint_of L p).comp ≡ Some x) × IsPin x (joint_of L p).pin
-    known_joint L is p known =
-        let w = pin_row L is p.comp.0 p.pin known.0 in
-        let comp : (joint_of L p).comp ≡ w.row.name = ap comp_name w.is in
-        let pin : (joint_of L p).pin ≡ w.pin.0 = ap (λ o. pin_name o p.pin) w.is ∙ ap (λ o. unwrap_or (option_map (λ (q : Name × _). q.0) o) []) w.at in (
-          component L.nets w.row,
-          ap (get (netlist L).comps) comp ∙ comp_is L is p.comp.0 w.row w.is,
-          subst (IsPin (component L.nets w.row)) (sym pin) (w.pin.1, role_is L is p.comp.0 w.row p.pin w.pin w.is w.at),
-        )
-
-    module _ (kinds : Kinds) (value : Name → Option Bool) (values : (n : Name) → value n ≡ supply_among (named_nets text d.nets) n) (L : Listing) (parts : PartsListed kinds value text d L) where
+    module _ (kinds : Kinds) (powers : Powers) (value : Name → Option Bool) (values : (n : Name) → value n ≡ supply_among (named_nets text d.nets) n) (L : Listing) (parts : PartsListed kinds value text d L) where
       abbrev ss : List NamedNet
       ss = named_nets text d.nets
+
+      abbrev powered : Name → Name → Bool
+      powered = has_supply_pin powers (named_comps text d.comps)
+
+      -- the pins that are put on nets
+      abbrev put : List NewJoint
+      put = known_pins (netlist L) (all_pins_on ss)
 
       comps : CompsAre kinds D.comps (netlist L)
       comps = subst (λ cs. CompsAre kinds cs (netlist L)) same_comps parts.comps
 
-      pub macro_fault : (fault : DesignFault) → MacroFault kinds D.comps fault → IsFault kinds D fault
+      pub macro_fault : (fault : DesignFault) → MacroFault kinds D.comps fault → IsFault kinds powers D fault
       macro_fault UnknownMacro f = f
       macro_fault UnknownPin f = absurd f
       macro_fault PinNetDiffers f = absurd f
       macro_fault SupplyDiffers f = absurd f
       macro_fault Memory f = f
 
-      pub pin_fault : (fault : DesignFault) → PinFault (netlist L) (all_pins_on ss) fault → IsFault kinds D fault
+      pub pin_fault : (fault : DesignFault) → PinFault powered (netlist L) (all_pins_on ss) fault → IsFault kinds powers D fault
       pin_fault UnknownMacro f = absurd f
-      pin_fault UnknownPin f = unknown_pin kinds D ss (to_text text d) (from_text text d) (netlist L) comps f.0 (has_from_contains (all_pins_on ss) f.0 f.1) f.2
+      pin_fault UnknownPin f =
+          unknown_pin kinds powers D ss (to_text text d) (from_text text d) (netlist L) comps f.0 (has_from_contains (all_pins_on ss) f.0 f.1)
+          (subst (λ cs. IsUnknownJoint (has_supply_pin powers cs) (netlist L) f.0.comp f.0.pin) same_comps f.2)
       pin_fault PinNetDiffers f = absurd f
       pin_fault SupplyDiffers f = absurd f
       pin_fault Memory f = f
 
-      pub join_fault : (fault : DesignFault) → JoinFault (all_pins_on ss) fault → IsFault kinds D fault
+      pub join_fault : (fault : DesignFault) → JoinFault put fault → IsFault kinds powers D fault
       join_fault UnknownMacro f = absurd f
       join_fault UnknownPin f = absurd f
-      join_fault PinNetDiffers f = pin_on_two kinds D ss (to_text text d) (from_text text d) f.0 f.1 (has_from_contains (all_pins_on ss) f.0 f.2) (has_from_contains (all_pins_on ss) f.1 f.3) f.4 f.5 f.6
+      join_fault PinNetDiffers f = pin_on_two kinds powers D ss (to_text text d) (from_text text d) (netlist L) comps f.0 f.1 (has_from_contains put f.0 f.2) (has_from_contains put f.1 f.3) f.4 f.5 f.6
       join_fault SupplyDiffers f = absurd f
       join_fault Memory f = f
 
@@ -174,19 +174,16 @@ module _ (text : List ℕ) (d : Design) where
           go [] = refl
           go (t ∷ ts) = λ i. ◌&&◌ (agree (supply_by t.usage) (values t.name i)) (go ts i)
 
-      pub supply_fault : list_all (λ s. keeps_value value (named_net text s)) d.nets ≡ false → IsFault kinds D SupplyDiffers
-      supply_fault e = two_values kinds D ss (to_text text d) (from_text text d) (sym agreeing ∙ e)
+      pub supply_fault : list_all (λ s. keeps_value value (named_net text s)) d.nets ≡ false → IsFault kinds powers D SupplyDiffers
+      supply_fault e = two_values kinds powers D ss (to_text text d) (from_text text d) (sym agreeing ∙ e)
 
-      pub whole : IsListing L → (pins : List JoinedPin) → FindsPins L (all_pins_on ss) [] pins → (M : Listing) → JoinsPins L pins M → list_all (λ s. keeps_value value (named_net text s)) d.nets ≡ true → IsListed kinds D (netlist M)
+      pub whole : IsListing L → (pins : List JoinedPin) → FindsPins powered L (all_pins_on ss) [] pins → (M : Listing) → JoinsPins L pins M → list_all (λ s. keeps_value value (named_net text s)) d.nets ≡ true → IsListed kinds powers D (netlist M)
       whole is pins found M joined same =
-          listed kinds D ss (to_text text d) (from_text text d) (netlist L) comps (netlist M) (read_once text (design_in text d) reading.read)
+          listed kinds powers D ss (to_text text d) (from_text text d) (netlist L) comps (netlist M) (read_once text (design_in text d) reading.read)
           (λ n. subst (λ names. get (netlist L).nets n ≡ cond (list_any (λ m. bytes_eq m n) names) (Some (supply_among ss n)) None) same_names (parts.nets n ∙ ap (λ v. cond (list_any (λ m. bytes_eq m n) (net_names text d)) (Some v) None) (values n)))
           (subst (λ ps. TopsAre ps (netlist L)) same_pins parts.tops)
           parts.ties parts.reserved
-          (λ j h.
-          let p = has_of_map (joint_of L) pins j (subst (λ js. Has js j) (sym found.joints) h) in
-          let x = known_joint L is p.0 (found.known (λ q i. absurd (has_from_contains {A = JoinedPin} [] q i)) p.0 (contains_from_has pins p.0 p.1)) in
-          subst (λ (k : NewJoint). (x : Component) × (get (netlist L).comps k.comp ≡ Some x) × IsPin x k.pin) p.2 x)
+          (λ j h. subst (λ cs. (has_pin (get (netlist L).comps j.comp) j.pin ≡ true) ⊎ (has_supply_pin powers cs j.comp j.pin ≡ true)) same_comps (found.each j (contains_from_has (all_pins_on ss) j h)))
           (subst OneNetEach found.joints joined.one)
           (subst (λ js. IsRewired (netlist L) js [] (netlist M)) found.joints joined.wired)
           (sym agreeing ∙ same)

@@ -1,18 +1,22 @@
 -- What holds of the netlists of designs.
-use Rattle.std.specs.Prelude.{◌≡◌, ◌↔◌, ℕ, false, ◌&&◌, List, [], Some, Ok}
+use Rattle.std.specs.Prelude.{◌≡◌, ◌↔◌, ℕ, true, false, ◌&&◌, List, [], None, Some, Ok}
 use Rattle.std.specs.List.{Contains, IsDistinct}
 use Rattle.std.specs.Str.{bytes_eq}
 use Rattle.std.specs.FinMap.{get}
+use Rattle.eco_def.specs.declared.design.Design.{Design as Read}
 use Rattle.eco_def.specs.Design.{Design}
 use Rattle.eco_def.specs.Grammar.{design_of}
 use Rattle.eco_def.specs.Named.{NamedDesign, names_of}
+use Rattle.eco_def.specs.View.{design_in}
 use Rattle.eco_issued.specs.Changes.{Changes, NewJoint, is_no_component, changes_of}
 use Rattle.eco_issued.specs.Issued.{issued_design}
 use Rattle.eco_net.specs.Netlist.{Name, Component, Netlist, CompPin, IsWhole}
 use Rattle.eco_net.specs.Drivers.{net_of}
 use Rattle.eco_full.specs.Netlists.{Kinds, netlist_of}
-use Rattle.eco_full.specs.Described.{AreWhole, NamesOnce, IsConsistent, IsNetlistOf, CanJoinIn}
+use Rattle.eco_full.specs.Described.{AreWhole, NamesOnce, IsSupply, IsConsistent, IsNetlistOf, CanJoinIn}
 use Rattle.eco_full.specs.Joints.{with_joints, IsRewired, OneNetEach, CanJoin}
+use Rattle.eco_full.specs.Stated.{named_nets}
+use Rattle.eco_full.specs.Building.{HasTwoValues, first_two_valued}
 
 -- What with_joints gives is what it says, and nothing else is, where each pin is one of a component and is put on one net.
 abbrev pub RewiredIs : Type 0
@@ -64,3 +68,9 @@ StillConsistent = (kinds : Kinds) (ties : List Name) (d : NamedDesign) (joints :
 -- A design's netlist is whole: each pin that is on a net is a pin of its component, and each net that a pin is on is a net.
 abbrev pub NetlistWhole : Type 0
 NetlistWhole = (kinds : Kinds) (ties : List Name) (d : NamedDesign) → AreWhole kinds → IsWhole (netlist_of kinds ties d)
+
+-- No statement gives its net another value as a supply than an earlier one exactly where no net is a supply of two values. The
+-- net of the first that does is a supply of both.
+abbrev pub TwoValuedIs : Type 0
+TwoValuedIs = (text : List ℕ) (d : Read) → ((first_two_valued (named_nets text d.nets) ≡ None) ↔ (HasTwoValues (names_of (design_in text d)) → ⊥)) ×
+    ((n : Name) → first_two_valued (named_nets text d.nets) ≡ Some n → IsSupply (names_of (design_in text d)) n true × IsSupply (names_of (design_in text d)) n false)

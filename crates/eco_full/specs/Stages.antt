@@ -1,7 +1,7 @@
 -- What each stage of listing a design adds to the netlist.
 use mathlib.Core.Bool.{beq}
-use Rattle.std.specs.Prelude.{◌≡◌, ◌≢◌, ◌⊎◌, ℕ, ◌+◌, ◌<◌, ◌≤◌, Bool, true, false, cond, ◌↔◌, List, [], ◌∷◌, ◌++◌, length, map, Option, Some, None, slice_get}
-use Rattle.std.specs.List.{Contains, list_any}
+use Rattle.std.specs.Prelude.{◌≡◌, ◌≢◌, ◌⊎◌, ℕ, ◌+◌, ◌<◌, ◌≤◌, Bool, true, false, ◌&&◌, cond, ◌↔◌, is_some, List, [], ◌∷◌, ◌++◌, length, map, Option, Some, None, slice_get}
+use Rattle.std.specs.List.{Contains, list_any, filter}
 use Rattle.std.specs.Option.{option_map, unwrap_or}
 use Rattle.std.specs.Str.{bytes_eq}
 use Rattle.std.specs.Borrow.{Bor}
@@ -11,20 +11,20 @@ use Rattle.std.specs.HashMap.{HashMap, get_by}
 use Rattle.std.specs.declared.hash.FoldHasher.{FoldHasher}
 use Rattle.std.specs.declared.hash.BuildHasherDefault.{BuildHasherDefault}
 use Rattle.eco_def.specs.declared.design.Design.{Design}
-use Rattle.eco_def.specs.Named.{NamedComp, NamedPin, NamedNet}
-use Rattle.eco_issued.specs.Changes.{NewJoint}
+use Rattle.eco_def.specs.Named.{NamedComp, NamedPin, NamedJoint, NamedNet}
+use Rattle.eco_issued.specs.Changes.{NewJoint, is_no_component}
 use Rattle.eco_net.specs.declared.kind.Kind.{Kind as Given}
 use Rattle.eco_net.specs.declared.rows.CompRow.{CompRow}
 use Rattle.eco_net.specs.declared.ids.CompId.{CompId}
 use Rattle.eco_net.specs.declared.ids.PinRef.TheVariants.{Pin}
-use Rattle.eco_net.specs.Netlist.{Name, Component, Top, Netlist, CompPin, IsPin}
+use Rattle.eco_net.specs.Netlist.{Name, Component, Top, Netlist, CompPin, IsPin, role_of}
 use Rattle.eco_net.specs.Changes.{empty_netlist}
 use Rattle.eco_net.specs.Drivers.{net_of}
-use Rattle.eco_net.specs.Listing.{Listing, netlist, net_name, pins, IsKnownPin}
+use Rattle.eco_net.specs.Listing.{Listing, netlist, net_name, comp_names, pins, IsKnownPin}
 use Rattle.eco_full.specs.declared.fault.DesignFault.{DesignFault}
 use Rattle.eco_full.specs.declared.fault.DesignFault.TheVariants.{UnknownMacro, UnknownPin, PinNetDiffers, SupplyDiffers, Memory}
 use Rattle.eco_full.specs.declared.joined_pin.JoinedPin.{JoinedPin}
-use Rattle.eco_full.specs.Netlists.{Kinds, supply_by, top_of}
+use Rattle.eco_full.specs.Netlists.{Kinds, Powers, supply_by, top_of}
 use Rattle.eco_full.specs.Joints.{IsRewired, OneNetEach}
 use Rattle.eco_full.specs.Stated.{named_net, named_pin, named_comps, named_pins}
 
@@ -74,6 +74,7 @@ pub record AddsComps (kinds : Kinds) (cs : List NamedComp) (L M : Listing) : Typ
   pub comps : (before : List NamedComp) → CompsAre kinds before (netlist L) → CompsAre kinds (before ++ cs) (netlist M)
   pub others : netlist M ≡ record (netlist L) { comps = (netlist M).comps }
   pub rows : M ≡ record L { comps = M.comps }
+  pub names : comp_names M ≡ comp_names L ++ map (λ c. c.name) cs
   pub count : length M.comps ≡ length L.comps + length cs
 
 -- a component's macro isn't known, or memory ran out
@@ -123,18 +124,42 @@ abbrev pub FindsPinOf : Listing → Name → Name → Option (CompId × ℕ) →
 FindsPinOf L comp pin None = (x : Component) → get (netlist L).comps comp ≡ Some x → IsPin x pin → ⊥
 FindsPinOf L comp pin (Some f) = IsKnownPin L (Pin f.0 f.1) × (comp_name (slice_get L.comps f.0.0) ≡ comp) × (pin_name (slice_get L.comps f.0.0) f.1 ≡ pin)
 
--- pins are found, by these names
-pub record FindsPins (L : Listing) (js : List NewJoint) (old new : List JoinedPin) : Type 0 where
-  pub joints : joints_of L new ≡ joints_of L old ++ js
-  pub known : ((p : JoinedPin) → Contains old p → IsKnownJoint L p) → (p : JoinedPin) → Contains new p → IsKnownJoint L p
+-- one of these components has the name, and its macro has the pin as a supply pin
+abbrev pub has_supply_pin : Powers → List NamedComp → Name → Name → Bool
+has_supply_pin powers cs comp pin = list_any (λ c. bytes_eq c.name comp && powers c.model pin) cs
 
--- a joint names no pin of a component, or memory ran out
-abbrev pub PinFault : Netlist → List NewJoint → DesignFault → Type 0
-PinFault N js UnknownMacro = ⊥
-PinFault N js UnknownPin = (j : NewJoint) × Contains js j × ((x : Component) → get N.comps j.comp ≡ Some x → IsPin x j.pin → ⊥)
-PinFault N js PinNetDiffers = ⊥
-PinFault N js SupplyDiffers = ⊥
-PinFault N js Memory = Unit {0}
+-- The pin that a joint names, or none: PIN or * stands in the component's place, or the pin is a supply pin.
+abbrev pub FindsJoint : (Name → Name → Bool) → Listing → NamedJoint → Option (CompId × ℕ) → Type 0
+FindsJoint powered L j None = (is_no_component j.comp ≡ true) ⊎ (FindsPinOf L j.comp j.pin None × (powered j.comp j.pin ≡ true))
+FindsJoint powered L j (Some f) = (is_no_component j.comp ≡ false) × FindsPinOf L j.comp j.pin (Some f)
+
+-- a joint names no pin of a component, and no supply pin
+pub record IsUnknownJoint (powered : Name → Name → Bool) (N : Netlist) (comp pin : Name) : Type 0 where
+  pub no_pin : (x : Component) → get N.comps comp ≡ Some x → IsPin x pin → ⊥
+  pub no_supply : powered comp pin ≡ false
+
+-- whether the component of a name has the pin
+abbrev pub has_pin : Option Component → Name → Bool
+has_pin None p = false
+has_pin (Some x) p = is_some (role_of x p)
+
+-- those of these pins that components of the netlist have: supply pins are passed over
+abbrev pub known_pins : Netlist → List NewJoint → List NewJoint
+known_pins N js = filter (λ j. has_pin (get N.comps j.comp) j.pin) js
+
+-- pins are found, by these names
+pub record FindsPins (powered : Name → Name → Bool) (L : Listing) (js : List NewJoint) (old new : List JoinedPin) : Type 0 where
+  pub joints : joints_of L new ≡ joints_of L old ++ known_pins (netlist L) js
+  pub known : ((p : JoinedPin) → Contains old p → IsKnownJoint L p) → (p : JoinedPin) → Contains new p → IsKnownJoint L p
+  pub each : (j : NewJoint) → Contains js j → (has_pin (get (netlist L).comps j.comp) j.pin ≡ true) ⊎ (powered j.comp j.pin ≡ true)
+
+-- a joint names no pin of a component, nor a supply pin, or memory ran out
+abbrev pub PinFault : (Name → Name → Bool) → Netlist → List NewJoint → DesignFault → Type 0
+PinFault powered N js UnknownMacro = ⊥
+PinFault powered N js UnknownPin = (j : NewJoint) × Contains js j × IsUnknownJoint powered N j.comp j.pin
+PinFault powered N js PinNetDiffers = ⊥
+PinFault powered N js SupplyDiffers = ⊥
+PinFault powered N js Memory = Unit {0}
 
 abbrev pub name_and_kind : CompRow → Name × Given
 name_and_kind r = (r.name, r.kind)
@@ -193,6 +218,7 @@ pub record NetsListed (value : Name → Option Bool) (text : List ℕ) (d : Desi
 pub record PartsListed (kinds : Kinds) (value : Name → Option Bool) (text : List ℕ) (d : Design) (L : Listing) : Type 0 where
   pub nets : NetsAre value (net_names text d) (netlist L)
   pub comps : CompsAre kinds (named_comps text d.comps) (netlist L)
+  pub numbers : comp_names L ≡ map (λ c. c.name) (named_comps text d.comps)
   pub tops : TopsAre (named_pins text d.pins) (netlist L)
   pub ties : (netlist L).ties ≡ set.empty
   pub reserved : (netlist L).reserved ≡ set.empty

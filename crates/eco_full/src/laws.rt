@@ -11,6 +11,7 @@ ghost use Rattle.eco_full.specs.Laws.{
   RewiredIs,
   StillConsistent,
   StillWhole,
+  TwoValuedIs,
 };
 
 /// A law: in a design that was read each component and each top pin is named once.
@@ -71,4 +72,10 @@ pub fn components_stay()
 /// A law: where no pin moves and no net is new, the design is issued as it is.
 pub fn nothing_moves()
     ensures { NothingMoves }
+{}
+
+/// A law: no statement gives its net another value as a supply than an earlier one exactly where no net has two values. The
+/// net of the first that does has both.
+pub fn two_valued_is()
+    ensures { TwoValuedIs }
 {}

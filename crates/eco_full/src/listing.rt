@@ -57,8 +57,8 @@ fn list_parts<M: Macros>(
 /// Lists the netlist of a design, its tie nets aside.
 ///
 /// The design is the reading of the text. Its nets are numbered by the order of their first statements, and behind them
-/// come those that only its own pins name. `UnknownMacro`, `UnknownPin`, `PinNetDiffers` and `SupplyDiffers` come in this
-/// order.
+/// come those that only its own pins name. Joints of supply pins put nothing on a net. `UnknownMacro`, `UnknownPin`,
+/// `PinNetDiffers` and `SupplyDiffers` come in this order.
 pub fn list_design<M: Macros>(
     alloc: Global,
     text: &[u8],
@@ -66,13 +66,14 @@ pub fn list_design<M: Macros>(
     macros: &M,
 ) -> Result<NetlistMaker, DesignFault>
     requires { IsReadingOf text.now design.now }
-    ensures { Lists (M.kinds macros.now) (names_of (design_in text.now design.now)) result }
+    ensures { Lists (M.kinds macros.now) (M.powers macros.now) (names_of (design_in text.now design.now)) result }
 {
     let nets = design.nets.as_slice();
     let supplies = first_supplies(alloc, text, nets)?;
     let mut maker = list_parts(alloc, text, design, macros, &supplies)?;
     let _listing = maker.counts();
-    let pins = find_pins(alloc, &maker, text, nets)?;
+    let comps = design.comps.as_slice();
+    let pins = find_pins(alloc, &maker, text, comps, macros, nets)?;
     join_pins(&mut maker, pins.as_slice())?;
     if !supplies_agree(text, nets, &supplies) {
         return Err(DesignFault::SupplyDiffers);

@@ -32,6 +32,7 @@ pub trait Macros {
 /// Each master of a functions file is a gate. It has no supply pins.
 impl Macros for Functions {
     ghost kinds = { λ functions name. option_map (λ m. kind_of (Gate m)) (find_master name functions) };
+
     ghost powers = { λ functions model pin. false };
 
     fn kind(&self, name: &[u8]) -> Result<Option<Kind>, Memory> {

@@ -1,15 +1,17 @@
 //! Which nets are supplies.
 
-ghost use Rattle.std.specs.Prelude.{◌≡◌, ℕ, List, [], ◌∷◌, Some, None, IfOk, OnOk, if◌then◌else◌};
-ghost use Rattle.std.specs.List.{list_all};
-ghost use Rattle.std.specs.Option.{option_or};
+ghost use Rattle.std.specs.Prelude.{◌≡◌, ℕ, List, [], ◌∷◌, not, Some, None, IfOk, OnOk, if◌then◌else◌};
+ghost use Rattle.std.specs.List.{list_all, find};
+ghost use Rattle.std.specs.Option.{option_map, option_or};
 ghost use Rattle.std.specs.Str.{bytes_eq};
 ghost use Rattle.eco_full.specs.Netlists.{supply_by as value_by};
 ghost use Rattle.eco_full.specs.Stated.{named_net, named_nets, supply_among};
 ghost use Rattle.eco_full.specs.Stages.{value_of, keeps_value};
+ghost use Rattle.eco_full.specs.Building.{first_two_valued as two_valued};
 
 use crate::words::bytes_at;
 use eco_def::NetStatement;
+use eco_func::Memory;
 use std::alloc::{AllocError, Global};
 use std::collections::HashMap;
 
@@ -93,4 +95,29 @@ pub fn supplies_agree(text: &[u8], nets: &[NetStatement], supplies: &Supplies<'_
     ensures { result ≡ list_all (λ s. keeps_value (value_of supplies.now) (named_net text.now s)) nets.now }
 {
     nets.iter().all(|net| keeps_supply(text, net, supplies))
+}
+
+/// The net of the first statement that gives its net another value than the first one does.
+fn first_differing<'a>(
+    text: &'a [u8],
+    nets: &[NetStatement],
+    supplies: &Supplies<'_>,
+) -> Option<&'a [u8]>
+    ensures { option_map (λ n. n.now) result ≡ option_map (λ s. (named_net text.now s).name) (find (λ s. not (keeps_value (value_of supplies.now) (named_net text.now s))) nets.now) }
+{
+    let net = nets.iter().find(|net| !keeps_supply(text, net, supplies))?;
+    Some(bytes_at(text, net.name))
+}
+
+/// The net of the first statement, in the order of the text, that gives its net another value as a supply than an earlier
+/// one. `list_design` gives `SupplyDiffers` only where there is one.
+pub fn first_two_valued<'a>(
+    alloc: Global,
+    text: &'a [u8],
+    nets: &[NetStatement],
+) -> Result<Option<&'a [u8]>, Memory>
+    ensures { IfOk result (λ name. option_map (λ n. n.now) name ≡ two_valued (named_nets text.now nets.now)) }
+{
+    let supplies = first_supplies(alloc, text, nets)?;
+    Ok(first_differing(text, nets, &supplies))
 }
