@@ -1,5 +1,5 @@
 -- The first component of an unknown master, and the first master that differs, by names.
-use Rattle.std.proofs.Common.{◌≡◌, ℕ, Bool, true, false, List, [], ◌∷◌, map, Option, Some, None, option_map, refl, sym, ap, subst, ◌∙◌, cond}
+use Rattle.std.proofs.Common.{◌≡◌, ℕ, Bool, true, false, List, [], ◌∷◌, map, Option, Some, option_map, refl, sym, ap, subst, ◌∙◌, cond}
 use Rattle.std.specs.List.{find}
 use Rattle.eco_def.specs.declared.design.Comp.{Comp}
 use Rattle.eco_func.specs.Masters.{MasterTables}

@@ -1,7 +1,6 @@
 -- The kinds of masters.
 use Rattle.std.proofs.Common.{◌≡◌, ℕ, ◌+◌, ◌<◌, ◌^◌, Bool, true, false, not, ◌||◌, List, [], ◌∷◌, ◌++◌, map, length, take, get_or, slice_get, Option, Some, None, option_map, option_and_then, refl, sym, ap, subst, ◌∙◌, inl, inr, true≢false, cond, arith}
-use Rattle.std.specs.List.{IsDistinct, AllByRecursion, filter, All, list_any}
-use Rattle.std.specs.Option.{IfSome}
+use Rattle.std.specs.List.{IsDistinct, AllByRecursion, filter, All}
 use Rattle.std.specs.Ordering.{eq_by_cmp}
 use Rattle.std.specs.Str.{bytes_eq}
 use Rattle.std.proofs.lemmas.List.{map-append, append-nil, take_more}
@@ -15,17 +14,16 @@ use Rattle.eco_lef.specs.declared.master.Master.{Master}
 use Rattle.eco_lef.specs.declared.master.MasterPin.{MasterPin}
 use Rattle.eco_lef.specs.Parsing.{is_among}
 use Rattle.eco_lef.specs.Known.{names_of, pin_names, first_place}
-use Rattle.eco_lef.specs.Collected.{find_master}
 use Rattle.eco_lef.specs.Names.{AreDistinct, HaveDistinctPins}
 use Rattle.eco_lef.proofs.Naming.{found}
 use Rattle.eco_net.specs.Among.{Has}
-use Rattle.eco_net.specs.Netlist.{Name, name_cmp, Kind, Boxed}
+use Rattle.eco_net.specs.Netlist.{Name, name_cmp, Boxed}
 use Rattle.eco_net.specs.declared.kind.BoxPin.{BoxPin}
 use Rattle.eco_net.specs.declared.kind.Kind.{Kind as Given}
 use Rattle.eco_net.specs.declared.kind.Kind.TheVariants.{Boxed as GivenBox}
 use Rattle.eco_net.specs.Listing.{kind_of, HasOwnPins}
 use Rattle.eco_net.proofs.Basics.{cmp_apart}
-use Rattle.eco_masters.specs.Tables.{library_pins, kind_in, kinds_of}
+use Rattle.eco_masters.specs.Tables.{kind_in, kinds_of}
 use Rattle.eco_masters.specs.Making.{box_pin, boxed, IsKindOf, AreKinds}
 
 -- ---- the pins of a box

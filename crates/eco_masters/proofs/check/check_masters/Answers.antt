@@ -1,4 +1,4 @@
-use Rattle.std.proofs.Common.{◌≡◌, ℕ, List, Some, None, sym, ap, subst, ◌∙◌}
+use Rattle.std.proofs.Common.{List, Some, None, sym, ap, subst, ◌∙◌}
 use Rattle.eco_def.specs.declared.design.Comp.{Comp}
 use Rattle.eco_def.specs.Known.{knows}
 use Rattle.eco_net.specs.Netlist.{Name}

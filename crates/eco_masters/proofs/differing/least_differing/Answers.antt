@@ -1,4 +1,4 @@
-use Rattle.std.proofs.Common.{None, map, option_copied}
+use Rattle.std.proofs.Common.{None, option_copied}
 use Rattle.eco_net.specs.Among.{Has}
 use Rattle.eco_masters.specs.Differing.{PinDiffers}
 use Rattle.eco_masters.specs.Odd.{odd}

@@ -1,4 +1,4 @@
-use Rattle.std.proofs.Common.{[], ◌∷◌, Option, Some, None, Bor, sym, subst, option_copied}
+use Rattle.std.proofs.Common.{[], ◌∷◌, Option, Some, Bor, sym, subst, option_copied}
 use Rattle.eco_net.specs.Netlist.{Name}
 use Rattle.eco_masters.specs.Odd.{Lessens}
 use Rattle.eco_masters.proofs.Leasts.{first_name}

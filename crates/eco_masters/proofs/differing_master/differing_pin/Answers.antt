@@ -1,4 +1,4 @@
-use Rattle.std.proofs.Common.{◌≡◌, false, Some, None, option_copied, sym, ap, ◌∙◌}
+use Rattle.std.proofs.Common.{option_copied, sym, ap, ◌∙◌}
 use Rattle.eco_def.specs.Known.{knows}
 use Rattle.eco_func.specs.FunctionsFile.{find_master as find_function}
 use Rattle.eco_masters.proofs.Firsts.{used_gate}

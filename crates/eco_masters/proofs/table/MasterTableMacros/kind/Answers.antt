@@ -1,4 +1,4 @@
-use Rattle.std.proofs.Common.{◌≡◌, Some, None, option_map, option_and_then, slice_get, sym, ap, subst, ◌∙◌}
+use Rattle.std.proofs.Common.{Some, option_map, option_and_then, slice_get, sym, ap, subst, ◌∙◌}
 use Rattle.eco_net.specs.Listing.{kind_of, HasOwnPins}
 use Rattle.eco_masters.specs.Tables.{Masters, kinds_of}
 use Rattle.eco_masters.proofs.MadeKinds.{kind_at, own_at}
