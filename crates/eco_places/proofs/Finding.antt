@@ -1,13 +1,13 @@
 -- What is found in a list, and where it is the first.
-use Rattle.std.proofs.Common.{◌≡◌, ◌≢◌, Bool, true, false, cond, List, [], ◌∷◌, ◌++◌, Option, Some, None, refl, sym, ap, ◌∙◌, subst, inl, inr, ⊎_elim, true≢false}
-use Rattle.std.specs.List.{Contains, find}
+use Rattle.std.proofs.Common.{◌≡◌, Bool, true, false, cond, List, [], ◌∷◌, Some, None, refl, sym, ap, ◌∙◌, inl, inr, ⊎_elim}
+use Rattle.std.specs.List.{find}
 use Rattle.std.specs.Option.{option_or}
 use Rattle.std.proofs.lemmas.Bool.{cases_Bool}
 use Rattle.std.proofs.lemmas.List.Folds.{find-append}
 use Rattle.eco_net.proofs.Basics.{Has, contains_from_has, not_None}
 use Rattle.eco_full.proofs.Members.{passes_found}
 use Rattle.eco_places.specs.Places.{PinPlace}
-use Rattle.eco_places.specs.Laws.{IsFirst, FirstIs}
+use Rattle.eco_places.specs.Laws.{IsFirst}
 
 -- nothing is found where nothing passes
 pub none_found : {A : Type 0} (test : A → Bool) (xs : List A) → ((x : A) → Has xs x → test x ≡ false) → find test xs ≡ None

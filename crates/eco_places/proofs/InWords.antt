@@ -1,6 +1,6 @@
 -- What the tests of pins say in words.
-use Rattle.std.proofs.Common.{◌≡◌, ◌≢◌, ℕ, Bool, true, false, cond, not, ◌&&◌, ◌||◌, List, [], ◌∷◌, Option, Some, None, refl, sym, ap, ◌∙◌, subst, inl, inr, ⊎_elim, ◌⊎◌, true≢false}
-use Rattle.std.specs.List.{Contains, list_any, find}
+use Rattle.std.proofs.Common.{◌≡◌, Bool, true, false, cond, not, ◌&&◌, ◌||◌, List, Option, Some, None, refl, sym, ap, ◌∙◌, subst, inl, inr, ⊎_elim, ◌⊎◌, true≢false}
+use Rattle.std.specs.List.{Contains, find}
 use Rattle.std.specs.Option.{option_map}
 use Rattle.std.specs.Str.{bytes_eq}
 use Rattle.std.proofs.lemmas.Bool.{cases_Bool, and_parts, and_from}
@@ -10,13 +10,13 @@ use Rattle.eco_net.specs.Netlist.{Name, Kind}
 use Rattle.eco_net.proofs.Basics.{Has, contains_from_has, has_from_contains, same_Some, not_None}
 use Rattle.eco_full.specs.Netlists.{Kinds, Powers, pin_names}
 use Rattle.eco_full.specs.Described.{NamesOnce}
-use Rattle.eco_full.specs.Building.{IsPinOf}
+use Rattle.eco_full.specs.Building.{IsSupplyPinOf}
 use Rattle.eco_full.proofs.Names.{same_name, is_name}
 use Rattle.eco_full.proofs.Members.{any_has, has_any, found_passes, passes_found}
 use Rattle.eco_places.specs.Places.{PinPlace, top_word, every_word}
 use Rattle.eco_places.specs.Pins.{Parts, parts_of, of_named, has_signal, is_signal_of, is_supply_of, is_signal_top, is_supply_top, is_signal, is_supply}
 use Rattle.eco_places.specs.Faults.{is_every, is_unknown}
-use Rattle.eco_places.specs.Laws.{IsSupplyOf, NamesPin, EachPin, TopPin, SignalPin, SupplyPin, IsSignal, OfTop, OfComp}
+use Rattle.eco_places.specs.Laws.{NamesPin, EachPin, TopPin, SignalPin, SupplyPin, IsSignal, OfTop, OfComp}
 
 -- ---- tests
 
@@ -109,7 +109,7 @@ module _ (kinds : Kinds) (powers : Powers) (d : NamedDesign) where
 
   -- ---- supply pins
 
-  pub supply_said : (comp pin : Name) → is_supply powers P comp pin ≡ true → ((comp ≡ top_word) × ((t : NamedPin) × Contains d.pins t × (t.name ≡ pin) × (t.supply ≡ true))) ⊎ ((is_no_component comp ≡ false) × IsSupplyOf powers d comp pin)
+  pub supply_said : (comp pin : Name) → is_supply powers P comp pin ≡ true → ((comp ≡ top_word) × ((t : NamedPin) × Contains d.pins t × (t.name ≡ pin) × (t.supply ≡ true))) ⊎ ((is_no_component comp ≡ false) × IsSupplyPinOf powers d comp pin)
   supply_said comp pin e = ⊎_elim
       (λ t.
       let o = supply_top (P.supply pin) (sym (ap (λ b. cond b (is_supply_top (P.supply pin)) (not (bytes_eq comp every_word) && is_supply_of powers (P.model comp) pin)) t) ∙ e) in
@@ -119,7 +119,7 @@ module _ (kinds : Kinds) (powers : Powers) (d : NamedDesign) where
       let a = and_parts (not (bytes_eq comp every_word)) (is_supply_of powers (P.model comp) pin) (sym (ap (λ b. cond b (is_supply_top (P.supply pin)) (not (bytes_eq comp every_word) && is_supply_of powers (P.model comp) pin)) n) ∙ e) in
       let m = supply_model powers (P.model comp) pin a.1 in
       let f = named_found (λ (c : NamedComp). c.name) (λ (c : NamedComp). c.model) d.comps comp m.0 m.1 in
-      inr (comp_word comp n (flipped (bytes_eq comp every_word) a.0), (f.0, contains_from_has d.comps f.0 f.1, f.2, ap (λ x. powers x pin) f.3 ∙ m.2)))
+      inr (comp_word comp n (flipped (bytes_eq comp every_word) a.0), record { of = f.0; found = contains_from_has d.comps f.0 f.1; same = f.2; supply = ap (λ x. powers x pin) f.3 ∙ m.2 }))
       (cases_Bool (bytes_eq comp top_word))
 
   -- ---- the other way, where each name stands once
@@ -159,11 +159,11 @@ module _ (kinds : Kinds) (powers : Powers) (d : NamedDesign) where
         ∙ ap (λ o. is_signal_of kinds o pin) (comp_model comp i.of i.found i.same)
         ∙ has_kind kinds i.of.model pin i.kind i.known i.has
 
-    to_supply : (comp pin : Name) → is_no_component comp ≡ false → IsSupplyOf powers d comp pin → is_supply powers P comp pin ≡ true
+    to_supply : (comp pin : Name) → is_no_component comp ≡ false → IsSupplyPinOf powers d comp pin → is_supply powers P comp pin ≡ true
     to_supply comp pin e s =
         of_comp comp e (is_supply_top (P.supply pin)) (is_supply_of powers (P.model comp) pin)
-        ∙ ap (λ o. is_supply_of powers o pin) (comp_model comp s.0 s.1 s.2)
-        ∙ s.3
+        ∙ ap (λ o. is_supply_of powers o pin) (comp_model comp s.of s.found s.same)
+        ∙ s.supply
 
     -- ---- joints of no pin
 

@@ -1,26 +1,26 @@
 -- Designs in which no joint is unknown and no pin is on two nets.
-use Rattle.std.proofs.Common.{◌≡◌, ◌≢◌, ℕ, Bool, true, false, not, ◌&&◌, ◌||◌, List, [], ◌∷◌, map, Option, Some, None, refl, sym, ap, ◌∙◌, subst, inl, inr, ⊎_elim, ◌⊎◌, true≢false}
-use Rattle.std.specs.List.{Contains, find, list_any, list_all}
+use Rattle.std.proofs.Common.{◌≡◌, ℕ, Bool, true, false, not, ◌&&◌, List, None, refl, sym, ap, ◌∙◌, subst, inl, inr, ⊎_elim, ◌⊎◌, true≢false}
+use Rattle.std.specs.List.{find, list_any}
 use Rattle.std.specs.Str.{bytes_eq}
-use Rattle.std.proofs.lemmas.Bool.{cases_Bool, and_parts, and_from}
+use Rattle.std.proofs.lemmas.Bool.{and_parts, and_from}
 use Rattle.eco_def.specs.declared.design.Design.{Design}
-use Rattle.eco_def.specs.Named.{NamedComp, NamedPin, NamedJoint, NamedNet, NamedDesign}
+use Rattle.eco_def.specs.Named.{NamedComp, NamedDesign}
 use Rattle.eco_def.specs.View.{design_in}
 use Rattle.eco_def.specs.Sections.{IsReadingOf}
 use Rattle.eco_issued.specs.Changes.{is_no_component}
 use Rattle.eco_net.specs.Netlist.{Name}
 use Rattle.eco_net.proofs.Basics.{Has, contains_from_has, has_from_contains}
-use Rattle.eco_full.specs.Netlists.{Kinds, Powers, statements, pin_names}
-use Rattle.eco_full.specs.Described.{NamesOnce, IsOn}
-use Rattle.eco_full.specs.Building.{IsPinOf}
+use Rattle.eco_full.specs.Netlists.{Kinds, statements}
+use Rattle.eco_full.specs.Described.{NamesOnce}
+use Rattle.eco_full.specs.Building.{IsPinOf, IsSupplyPinOf, HasUnknownPin, HasPinOnTwo}
 use Rattle.eco_full.proofs.ReadOnce.{read_once}
 use Rattle.eco_full.proofs.Names.{same_name, is_name}
 use Rattle.eco_full.proofs.Members.{any_has, has_any}
 use Rattle.eco_places.specs.Places.{PinPlace, top_word, every_word, joints, places}
 use Rattle.eco_places.specs.Pins.{parts_of, has_signal, is_signal}
-use Rattle.eco_places.specs.Faults.{named, is_every, is_unknown, first_net, differs, is_on_second, is_pattern}
-use Rattle.eco_places.specs.Laws.{IsFirst, FirstIs, IsSupplyOf, NamesPin, EachPin, TopPin, SignalPin, SupplyPin, UnknownIs, IsSignal, OfTop, OfComp, IsSamePin, IsSecond, DifferingIs, IsPatternOnSignal, PatternIs, JointsKnown, OneNet}
-use Rattle.eco_places.proofs.First.{first_is, first_among}
+use Rattle.eco_places.specs.Faults.{named, first_unknown, first_differing, is_every, is_unknown, first_net, differs, is_on_second, is_pattern}
+use Rattle.eco_places.specs.Laws.{IsFirst, NamesPin, EachPin, TopPin, SignalPin, SupplyPin, UnknownIs, IsSignal, OfComp, IsSamePin, DifferingIs, IsPatternOnSignal, PatternIs, JointsKnown, OneNet, ReasonsFound}
+use Rattle.eco_places.proofs.First.{first_is}
 use Rattle.eco_places.proofs.Finding.{none_passes}
 use Rattle.eco_places.proofs.InWords.{has_kind, kind_has, unknown_not, known_said, not_unknown, to_signal}
 use Rattle.eco_places.proofs.Seconds.{seconds, net_of_first, has_first, same_firsts}
@@ -79,10 +79,10 @@ joints_known kinds powers text d r none s j h i c =
     let named_pin = known_said kinds powers (named text d) (once text d r) p.0 (none_passes (is_unknown kinds powers (parts_of (named text d))) (joints text d) none p.0 p.1) in
     ⊎_elim
     (λ a. inl (subst (λ n. IsPinOf kinds (named text d) j.comp n) p.3 (subst (λ m. IsPinOf kinds (named text d) m p.0.pin) p.2 a)))
-    (λ a. inr (subst (λ n. IsSupplyOf powers (named text d) j.comp n) p.3 (subst (λ m. IsSupplyOf powers (named text d) m p.0.pin) p.2 a)))
+    (λ a. inr (subst (λ n. IsSupplyPinOf powers (named text d) j.comp n) p.3 (subst (λ m. IsSupplyPinOf powers (named text d) m p.0.pin) p.2 a)))
     (of_comp p.0 (ap is_no_component p.2 ∙ c) named_pin)
   where
-    of_comp : (q : PinPlace) → is_no_component q.comp ≡ false → NamesPin kinds powers (named text d) q → IsPinOf kinds (named text d) q.comp q.pin ⊎ IsSupplyOf powers (named text d) q.comp q.pin
+    of_comp : (q : PinPlace) → is_no_component q.comp ≡ false → NamesPin kinds powers (named text d) q → IsPinOf kinds (named text d) q.comp q.pin ⊎ IsSupplyPinOf powers (named text d) q.comp q.pin
     of_comp q c (EachPin t e) = absurd (every_is_none q.comp e c)
     of_comp q c (TopPin e t u n) = absurd (top_is_none q.comp e c)
     of_comp q c (SignalPin e a) = inl a
@@ -124,3 +124,12 @@ one_net kinds text d r none c p n m pin on of =
     ∙ sym (net_is_first kinds text d r none q.0 first.0 q.1 sq first.1)
     ∙ net_is_first kinds text d r none s.0 first.0 s.1 ss (same_firsts (places text d) q.0 s.0 first.0 same first.1)
     ∙ s.4
+
+pub reasons_found : ReasonsFound
+reasons_found kinds powers text d r = (unknown, on_two)
+  where
+    unknown : first_unknown kinds powers text d ≡ None → HasUnknownPin kinds powers (named text d) → ⊥
+    unknown none h = ⊎_elim h.5 h.6 (joints_known kinds powers text d r none h.0 h.1 h.2 h.3 h.4)
+
+    on_two : first_differing kinds text d ≡ None → HasPinOnTwo kinds (named text d) → ⊥
+    on_two none h = h.7 (one_net kinds text d r none h.0 h.1 h.2 h.3 h.4 h.5 h.6)

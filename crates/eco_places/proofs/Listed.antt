@@ -1,29 +1,27 @@
 -- Designs that can be listed and whose joints that name no component are right.
-use Rattle.std.proofs.Common.{◌≡◌, ◌≢◌, ℕ, Bool, true, false, List, [], ◌∷◌, map, Option, Some, None, refl, sym, ap, ◌∙◌, subst, inl, inr, ⊎_elim, ◌⊎◌, true≢false}
-use Rattle.std.specs.List.{Contains, find, list_all}
+use Rattle.std.proofs.Common.{◌≡◌, ℕ, true, false, List, map, None, sym, ap, ◌∙◌, subst, ⊎_elim}
+use Rattle.std.specs.List.{list_all}
 use Rattle.std.proofs.lemmas.Bool.{cases_Bool}
-use Rattle.eco_def.specs.declared.design.NetStatement.{NetStatement}
 use Rattle.eco_def.specs.declared.design.Design.{Design}
-use Rattle.eco_def.specs.Named.{NamedJoint, NamedNet, NamedDesign, joint_names}
+use Rattle.eco_def.specs.Named.{NamedJoint, NamedNet, joint_names}
 use Rattle.eco_def.specs.View.{joint_in}
 use Rattle.eco_def.specs.Sections.{IsReadingOf}
 use Rattle.eco_issued.specs.Changes.{NewJoint, is_no_component}
-use Rattle.eco_net.specs.Netlist.{Name}
 use Rattle.eco_net.proofs.Basics.{Has, contains_from_has, has_of_map, has_map}
 use Rattle.eco_full.specs.Netlists.{Kinds, Powers, statements}
 use Rattle.eco_full.specs.Stated.{named_net, pins_on, all_pins_on, on_net}
 use Rattle.eco_full.specs.Described.{IsOn}
-use Rattle.eco_full.specs.Building.{IsPinOf}
+use Rattle.eco_full.specs.Building.{IsPinOf, IsSupplyPinOf}
 use Rattle.eco_full.proofs.Stating.{from_text, of_flat_map, in_flat_map, in_pins, stands_of_pin}
-use Rattle.eco_places.specs.Places.{PinPlace, joint_place, joints_on, top_word, joints, places}
+use Rattle.eco_places.specs.Places.{PinPlace, joint_place, joints_on, joints, places}
 use Rattle.eco_places.specs.Pins.{parts_of}
 use Rattle.eco_places.specs.Faults.{named, is_unknown, is_on_second, first_unknown, first_differing, is_right}
-use Rattle.eco_places.specs.Laws.{IsFirst, IsSupplyOf, AreKnown, OnOneNet, NamesPin, SignalPin, SupplyPin, IsSignal, OfTop, OfComp, IsSamePin, IsSecond, NoneWrong}
+use Rattle.eco_places.specs.Laws.{AreKnown, OnOneNet, NamesPin, SignalPin, SupplyPin, IsSignal, OfTop, OfComp, IsSamePin, IsSecond, NoneWrong}
 use Rattle.eco_places.proofs.First.{first_among}
 use Rattle.eco_places.proofs.Finding.{none_found}
 use Rattle.eco_places.proofs.InWords.{unknown_not}
 use Rattle.eco_places.proofs.Seconds.{second_said}
-use Rattle.eco_places.proofs.Standing.{joint_among, of_places}
+use Rattle.eco_places.proofs.Standing.{of_places}
 use Rattle.eco_places.proofs.Known.{once, top_is_none}
 use Rattle.eco_places.proofs.TopJoints.{names, on_one}
 
@@ -32,11 +30,15 @@ module _ (text : List ℕ) (d : Design) where
   pub statement_of : (p : PinPlace) → Has (joints text d) p → (s : NamedNet) × (j : NamedJoint) × Has (statements (named text d)) s × Has s.joints j × (j.comp ≡ p.comp) × (j.pin ≡ p.pin) × (s.name ≡ p.net)
   statement_of p h =
       let s = of_flat_map (joints_on text) d.nets p h in
-      let j = has_of_map (joint_place text s.0) s.0.joints p s.2 in
-      (named_net text s.0, joint_names (joint_in text j.0),
-      from_text text d (named_net text s.0) (has_map (named_net text) d.nets s.0 s.1),
-      has_map joint_names (map (joint_in text) s.0.joints) (joint_in text j.0) (has_map (joint_in text) s.0.joints j.0 j.1),
-      ap (λ (q : PinPlace). q.comp) j.2, ap (λ (q : PinPlace). q.pin) j.2, ap (λ (q : PinPlace). q.net) j.2)
+      let j = has_of_map (joint_place text s.0) s.0.joints p s.2 in (
+        named_net text s.0,
+        joint_names (joint_in text j.0),
+        from_text text d (named_net text s.0) (has_map (named_net text) d.nets s.0 s.1),
+        has_map joint_names (map (joint_in text) s.0.joints) (joint_in text j.0) (has_map (joint_in text) s.0.joints j.0 j.1),
+        ap (λ (q : PinPlace). q.comp) j.2,
+        ap (λ (q : PinPlace). q.pin) j.2,
+        ap (λ (q : PinPlace). q.net) j.2,
+      )
 
   -- the pin of a component's joint is on the joint's net
   pub on_its_net : (p : PinPlace) → Has (joints text d) p → is_no_component p.comp ≡ false → IsOn (named text d) p.comp p.pin p.net
@@ -55,7 +57,7 @@ module _ (kinds : Kinds) (powers : Powers) (text : List ℕ) (d : Design) (r : I
       let s = statement_of text d p h in
       ⊎_elim
       (λ i. SignalPin f (subst (λ n. IsPinOf kinds (named text d) p.comp n) s.5 (subst (λ m. IsPinOf kinds (named text d) m s.1.pin) s.4 i)))
-      (λ i. SupplyPin f (subst (λ n. IsSupplyOf powers (named text d) p.comp n) s.5 (subst (λ m. IsSupplyOf powers (named text d) m s.1.pin) s.4 i)))
+      (λ i. SupplyPin f (subst (λ n. IsSupplyPinOf powers (named text d) p.comp n) s.5 (subst (λ m. IsSupplyPinOf powers (named text d) m s.1.pin) s.4 i)))
       (known s.0 s.1 (contains_from_has (statements (named text d)) s.0 s.2) (contains_from_has s.0.joints s.1 s.3) (ap is_no_component s.4 ∙ f)))
       (cases_Bool (is_no_component p.comp))
 
@@ -89,4 +91,4 @@ module _ (kinds : Kinds) (powers : Powers) (text : List ℕ) (d : Design) (r : I
       (cases_Bool (is_on_second kinds (parts_of (named text d)) (places text d) p)))
 
 pub none_wrong : NoneWrong
-none_wrong kinds powers text d r known one all = (none_unknown kinds powers text d r known one all, none_differs kinds powers text d r known one all)
+none_wrong kinds powers text d N r listed all = (none_unknown kinds powers text d r listed.joints listed.one_net all, none_differs kinds powers text d r listed.joints listed.one_net all)

@@ -1,6 +1,6 @@
 -- The first item that passes a test, in a list that is read item by item.
 use Rattle.std.proofs.Common.{◌≡◌, ℕ, ◌+◌, ◌<◌, Bool, true, false, cond, is_some, List, [], ◌∷◌, ◌++◌, length, map, take, drop, get_or, Option, Some, None, refl, sym, ap, ap₂, ◌∙◌}
-use Rattle.std.specs.List.{find, filter, flat_map}
+use Rattle.std.specs.List.{find, filter}
 use Rattle.std.specs.Option.{option_map, option_or}
 use Rattle.std.specs.Str.{bytes_eq}
 use Rattle.std.proofs.lemmas.List.{take_more, take-append-drop, map-append, append-nil}
@@ -12,7 +12,7 @@ use Rattle.eco_net.specs.Netlist.{Name}
 use Rattle.eco_places.specs.declared.side.Side.{Side}
 use Rattle.eco_places.specs.Held.{takes}
 use Rattle.eco_places.specs.Pins.{of_named}
-use Rattle.eco_places.specs.Places.{PinPlace, joints_on, joints_among}
+use Rattle.eco_places.specs.Places.{joints_on, joints_among}
 
 -- ---- options
 

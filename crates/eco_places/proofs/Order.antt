@@ -1,5 +1,5 @@
 -- The places of a design, side by side.
-use Rattle.std.proofs.Common.{◌≡◌, ℕ, nat_lt, Bool, true, false, not, is_some, List, [], ◌∷◌, ◌++◌, length, map, take, get_or, Option, Some, None, refl, sym, ap, ◌∙◌, subst, ◌+◌, ◌<◌}
+use Rattle.std.proofs.Common.{◌≡◌, ℕ, nat_lt, Bool, true, false, not, is_some, List, [], ◌∷◌, ◌++◌, length, map, take, get_or, Option, refl, sym, ap, ◌∙◌, subst, ◌+◌, ◌<◌}
 use Rattle.std.specs.List.{find, filter}
 use Rattle.std.specs.Option.{option_map, option_or}
 use Rattle.std.proofs.lemmas.List.{take_more}
@@ -13,7 +13,7 @@ use Rattle.eco_places.specs.declared.side.Side.{Side}
 use Rattle.eco_places.specs.declared.side.Side.TheVariants.{Before, Behind, Both}
 use Rattle.eco_places.specs.Held.{place_by, takes, net_by, AddsPlaces}
 use Rattle.eco_places.specs.Faults.{first_net}
-use Rattle.eco_places.specs.Places.{PinPlace, joints_among, top_place, pins_start, joints, places}
+use Rattle.eco_places.specs.Places.{PinPlace, joints_among, top_place, pins_start, places}
 use Rattle.eco_places.proofs.Lists.{some_map, in_front, behind, side_append}
 use Rattle.eco_places.proofs.Maps.{Nets, more_added, no_nets}
 

@@ -1,9 +1,8 @@
 -- The models and top pins of a design, found by maps.
-use Rattle.std.proofs.Common.{◌≡◌, ℕ, Bool, ◌||◌, List, [], ◌∷◌, map, Option, refl, sym, ap, ◌∙◌}
+use Rattle.std.proofs.Common.{◌≡◌, ℕ, Bool, List, map, sym, ap, ◌∙◌}
 use Rattle.std.specs.List.{find, list_any}
 use Rattle.std.specs.Option.{option_map}
 use Rattle.std.specs.Str.{bytes_eq}
-use Rattle.std.specs.Borrow.{Bor}
 use Rattle.eco_def.specs.declared.design.Comp.{Comp}
 use Rattle.eco_def.specs.declared.design.TopPin.{TopPin}
 use Rattle.eco_def.specs.declared.design.Design.{Design}
@@ -15,8 +14,8 @@ use Rattle.eco_full.specs.Stated.{word_bytes, named_comp, named_pin}
 use Rattle.eco_full.proofs.Names.{any_mapped}
 use Rattle.eco_places.specs.declared.design_pins.DesignPins.{DesignPins}
 use Rattle.eco_places.specs.Faults.{named}
-use Rattle.eco_places.specs.Held.{ByName, at_name, model_by, parts_by}
-use Rattle.eco_places.specs.Pins.{Parts, of_named, parts_of}
+use Rattle.eco_places.specs.Held.{at_name, model_by, parts_by}
+use Rattle.eco_places.specs.Pins.{of_named, parts_of}
 use Rattle.eco_places.proofs.Lists.{named_map, find_map, map_twice}
 
 -- the names of a list of the design

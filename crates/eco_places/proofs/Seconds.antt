@@ -1,21 +1,21 @@
 -- Pins on two nets: what the tests say in words, and what follows where none passes.
-use Rattle.std.proofs.Common.{◌≡◌, ◌≢◌, ℕ, Bool, true, false, cond, not, ◌&&◌, List, [], ◌∷◌, ◌++◌, map, Option, Some, None, refl, sym, ap, ◌∙◌, subst, inl, inr, ⊎_elim, ◌⊎◌, true≢false}
-use Rattle.std.specs.List.{Contains, find}
+use Rattle.std.proofs.Common.{◌≡◌, ◌≢◌, Bool, true, false, not, List, Option, Some, None, refl, sym, ap, ◌∙◌, subst, true≢false}
+use Rattle.std.specs.List.{find}
 use Rattle.std.specs.Option.{option_map}
 use Rattle.std.specs.Str.{bytes_eq}
-use Rattle.std.proofs.lemmas.Bool.{cases_Bool, and_parts, and_from}
+use Rattle.std.proofs.lemmas.Bool.{and_parts, and_from}
 use Rattle.eco_def.specs.Named.{NamedDesign}
 use Rattle.eco_net.specs.Netlist.{Name}
 use Rattle.eco_net.proofs.Basics.{Has, same_Some, not_None}
 use Rattle.eco_full.specs.Netlists.{Kinds, Powers}
 use Rattle.eco_full.specs.Described.{NamesOnce}
 use Rattle.eco_full.proofs.Names.{same_name, is_name, other_name}
-use Rattle.eco_full.proofs.Members.{passes_found, found_passes}
+use Rattle.eco_full.proofs.Members.{passes_found}
 use Rattle.eco_places.specs.Places.{PinPlace}
 use Rattle.eco_places.specs.Pins.{parts_of, is_signal}
 use Rattle.eco_places.specs.Faults.{is_of, first_net, differs, is_on_second}
-use Rattle.eco_places.specs.Laws.{IsFirst, FirstIs, IsSamePin, IsSignal, IsSecond}
-use Rattle.eco_places.proofs.First.{first_by, first_is, same_first}
+use Rattle.eco_places.specs.Laws.{IsFirst, FirstIs, IsSamePin, IsSecond}
+use Rattle.eco_places.proofs.First.{first_is, same_first}
 use Rattle.eco_places.proofs.Finding.{first_found}
 use Rattle.eco_places.proofs.InWords.{signal_said, to_signal}
 

@@ -1,10 +1,9 @@
 -- The joints of a design's statements among its places.
-use Rattle.std.proofs.Common.{◌≡◌, ℕ, nat_lt, Bool, true, false, not, List, [], ◌∷◌, ◌++◌, map, Option, Some, None, refl, sym, ap, ◌∙◌, subst, inl, inr, ⊎_elim, ◌⊎◌, true≢false}
-use Rattle.std.specs.List.{Contains, filter, flat_map, find}
+use Rattle.std.proofs.Common.{◌≡◌, ℕ, nat_lt, Bool, false, not, List, ◌++◌, map, sym, ap, ◌∙◌, subst, inl, inr, ⊎_elim, ◌⊎◌}
+use Rattle.std.specs.List.{Contains, filter}
 use Rattle.std.proofs.lemmas.Bool.{cases_Bool}
 use Rattle.eco_def.specs.declared.design.NetStatement.{NetStatement}
 use Rattle.eco_def.specs.declared.design.TopPin.{TopPin}
-use Rattle.eco_def.specs.declared.design.Joint.{Joint}
 use Rattle.eco_def.specs.declared.design.Design.{Design}
 use Rattle.eco_def.specs.Named.{NamedPin, NamedJoint, NamedNet, joint_names, pin_names}
 use Rattle.eco_def.specs.View.{joint_in, pin_in}
@@ -12,11 +11,11 @@ use Rattle.eco_issued.specs.Changes.{NewJoint, is_no_component}
 use Rattle.eco_net.specs.Netlist.{Name}
 use Rattle.eco_net.proofs.Basics.{Has, contains_from_has, has_from_contains, has_map, has_of_map, has_append_left, has_append_right}
 use Rattle.eco_full.specs.Netlists.{statements}
-use Rattle.eco_full.specs.Stated.{named_net, named_nets, named_pin, pins_on, on_net}
+use Rattle.eco_full.specs.Stated.{named_net, named_pin, pins_on}
 use Rattle.eco_full.specs.Described.{IsOn}
 use Rattle.eco_full.proofs.Members.{has_of_append, of_filter, in_filter}
-use Rattle.eco_full.proofs.Stating.{to_text, from_text, of_flat_map, in_flat_map, pin_of_stands, of_pins}
-use Rattle.eco_places.specs.Places.{PinPlace, joint_place, joints_on, joints_among, top_place, top_word, pins_start, joints, places}
+use Rattle.eco_full.proofs.Stating.{to_text, of_flat_map, in_flat_map, pin_of_stands, of_pins}
+use Rattle.eco_places.specs.Places.{PinPlace, joint_place, joints_on, joints_among, top_place, pins_start, joints, places}
 use Rattle.eco_places.specs.Faults.{named}
 
 module _ (text : List ℕ) (d : Design) where
@@ -42,10 +41,13 @@ module _ (text : List ℕ) (d : Design) where
       let k = subst (λ (z : NamedNet). Has z.joints j) (sym t.2) i in
       let u = has_of_map joint_names (map (joint_in text) t.0.joints) j k in
       let v = has_of_map (joint_in text) t.0.joints u.0 u.1 in
-      let same : joint_names (joint_in text v.0) ≡ j = ap joint_names v.2 ∙ u.2 in
-      (joint_place text t.0 v.0,
-      in_flat_map (joints_on text) d.nets t.0 (joint_place text t.0 v.0) t.1 (has_map (joint_place text t.0) t.0.joints v.0 v.1),
-      ap (λ (z : NamedJoint). z.comp) same, ap (λ (z : NamedJoint). z.pin) same, ap (λ (z : NamedNet). z.name) t.2)
+      let same : joint_names (joint_in text v.0) ≡ j = ap joint_names v.2 ∙ u.2 in (
+        joint_place text t.0 v.0,
+        in_flat_map (joints_on text) d.nets t.0 (joint_place text t.0 v.0) t.1 (has_map (joint_place text t.0) t.0.joints v.0 v.1),
+        ap (λ (z : NamedJoint). z.comp) same,
+        ap (λ (z : NamedJoint). z.pin) same,
+        ap (λ (z : NamedNet). z.name) t.2,
+      )
 
   -- each joint is a place
   pub joint_among : (p : PinPlace) → Has (joints text d) p → Has (places text d) p

@@ -1,5 +1,5 @@
 -- What is told of the place that is found.
-use Rattle.std.proofs.Common.{◌≡◌, ℕ, Bool, true, false, ◌&&◌, ◌||◌, not, List, [], ◌∷◌, ◌++◌, map, Option, Some, None, refl, sym, ap, ◌∙◌, true≢false, inl, inr, ⊎_elim}
+use Rattle.std.proofs.Common.{◌≡◌, ℕ, Bool, true, false, ◌&&◌, ◌||◌, List, [], ◌∷◌, map, Option, Some, None, refl, sym, ap, ◌∙◌, true≢false, ⊎_elim}
 use Rattle.std.specs.List.{find, list_any, list_all, flat_map}
 use Rattle.std.specs.Option.{option_map, IsSome}
 use Rattle.std.specs.Str.{bytes_eq}
@@ -24,7 +24,7 @@ use Rattle.eco_places.specs.declared.design_pins.DesignPins.{DesignPins}
 use Rattle.eco_places.specs.declared.faults.UnknownPin.{UnknownPin}
 use Rattle.eco_places.specs.declared.faults.TwoNets.{TwoNets}
 use Rattle.eco_places.specs.declared.faults.Pattern.{Pattern}
-use Rattle.eco_places.specs.Places.{PinPlace, every_word, joint_place, joints_on, joints_among, joints, places}
+use Rattle.eco_places.specs.Places.{PinPlace, every_word, joint_place, joints_on, joints, places}
 use Rattle.eco_places.specs.Pins.{Parts, parts_of, has_signal, is_signal}
 use Rattle.eco_places.specs.Faults.{named, is_every, is_unknown, first_unknown, first_net, differs, first_differing, is_pattern, first_pattern, is_right, unknown_at, two_nets_at, pattern_at}
 use Rattle.eco_places.specs.Held.{ByName, at_name, place_by, parts_by, net_by, right_by}

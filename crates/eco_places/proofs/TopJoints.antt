@@ -1,25 +1,22 @@
 -- What it says that the joints of the design's own pins are right.
-use Rattle.std.proofs.Common.{◌≡◌, ◌≢◌, ℕ, Bool, true, false, cond, not, ◌&&◌, ◌||◌, List, [], ◌∷◌, map, Option, Some, None, refl, sym, ap, ◌∙◌, subst, inl, inr, ⊎_elim, ◌⊎◌, true≢false}
+use Rattle.std.proofs.Common.{◌≡◌, ◌≢◌, ℕ, Bool, true, false, cond, not, ◌||◌, List, Option, Some, None, refl, sym, ap, ◌∙◌, ⊎_elim, true≢false}
 use Rattle.std.specs.List.{Contains, find, list_all}
 use Rattle.std.specs.Str.{bytes_eq}
 use Rattle.std.proofs.lemmas.Bool.{cases_Bool, or_left, or_right}
 use Rattle.eco_def.specs.declared.design.Design.{Design}
-use Rattle.eco_def.specs.declared.design.TopPin.{TopPin as Top}
 use Rattle.eco_def.specs.Named.{NamedPin, NamedDesign}
 use Rattle.eco_def.specs.Sections.{IsReadingOf}
 use Rattle.eco_issued.specs.Changes.{is_no_component}
 use Rattle.eco_net.specs.Netlist.{Name}
-use Rattle.eco_net.proofs.Basics.{Has, contains_from_has, has_from_contains, not_None}
+use Rattle.eco_net.proofs.Basics.{Has, contains_from_has, has_from_contains}
 use Rattle.eco_full.specs.Netlists.{Kinds, Powers}
 use Rattle.eco_full.specs.Stated.{named_pin}
-use Rattle.eco_full.specs.Building.{IsPinOf}
 use Rattle.eco_full.proofs.Names.{same_name, is_name, same_or_other}
 use Rattle.eco_full.proofs.Members.{all_has, has_all, found_passes, passes_found}
 use Rattle.eco_places.specs.Places.{PinPlace, top_word, every_word, top_place, joints, places}
 use Rattle.eco_places.specs.Faults.{named, is_on, is_right}
-use Rattle.eco_places.specs.Laws.{IsFirst, NamesPin, EachPin, TopPin, SignalPin, SupplyPin, IsSignal, OfTop, OfComp, IsSamePin, IsSecond, TopsAgreeIs}
+use Rattle.eco_places.specs.Laws.{NamesPin, EachPin, TopPin, SignalPin, SupplyPin, IsSignal, OfTop, OfComp, IsSamePin, IsSecond, TopsAgreeIs}
 use Rattle.eco_places.proofs.First.{first_among}
-use Rattle.eco_places.proofs.InWords.{both_false}
 use Rattle.eco_places.proofs.Seconds.{has_first, same_firsts}
 use Rattle.eco_places.proofs.Standing.{joint_among, top_among, of_places, named_top, top_named}
 use Rattle.eco_places.proofs.Known.{once, every_is_none, top_is_none}
@@ -92,7 +89,7 @@ module _ (kinds : Kinds) (powers : Powers) (text : List ℕ) (d : Design) (r : I
             ∙ sym (on_its_net t i l p (has_from_contains (places text d) p h) c (sym n)))
 
   module _ (named_each : (p : PinPlace) → Contains (joints text d) p → is_no_component p.comp ≡ true → NamesPin kinds powers e p)
-    (one : (p : PinPlace) → Contains (places text d) p → p.comp ≡ top_word → IsSecond kinds e (places text d) p → ⊥) where
+      (one : (p : PinPlace) → Contains (places text d) p → p.comp ≡ top_word → IsSecond kinds e (places text d) p → ⊥) where
     -- a joint of a top pin that isn't supply is on its net
     its_net : (p : PinPlace) → Has (joints text d) p → p.comp ≡ top_word → (t : NamedPin) → Contains e.pins t → t.name ≡ p.pin → t.supply ≡ false → t.net ≡ p.net
     its_net p h c t i n s =

@@ -1,10 +1,10 @@
 -- The first joint of no pin, the first pin on two nets, and the first pattern on a signal pin.
 use Rattle.std.specs.Prelude.{ℕ, Bool, false, not, ◌&&◌, ◌||◌, List, [], ◌++◌, Option, Some, None, codes, if◌then◌else◌}
-use Rattle.std.specs.List.{list_any, list_all, find}
+use Rattle.std.specs.List.{list_any, find}
 use Rattle.std.specs.Option.{option_map, unwrap_or}
 use Rattle.std.specs.Str.{bytes_eq}
 use Rattle.eco_def.specs.declared.design.Design.{Design}
-use Rattle.eco_def.specs.Named.{NamedComp, NamedPin, NamedDesign, names_of}
+use Rattle.eco_def.specs.Named.{NamedPin, NamedDesign, names_of}
 use Rattle.eco_def.specs.View.{design_in}
 use Rattle.eco_net.specs.Netlist.{Name}
 use Rattle.eco_full.specs.Netlists.{Kinds, Powers}

@@ -6,7 +6,6 @@ use Rattle.std.specs.Borrow.{Bor}
 use Rattle.std.specs.HashMap.{HashMap, get_by}
 use Rattle.std.specs.declared.hash.FoldHasher.{FoldHasher}
 use Rattle.std.specs.declared.hash.BuildHasherDefault.{BuildHasherDefault}
-use Rattle.eco_def.specs.declared.design.TopPin.{TopPin}
 use Rattle.eco_def.specs.declared.design.NetStatement.{NetStatement}
 use Rattle.eco_def.specs.Named.{NamedPin}
 use Rattle.eco_net.specs.Netlist.{Name}

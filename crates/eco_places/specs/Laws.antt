@@ -5,10 +5,10 @@ use Rattle.eco_def.specs.declared.design.Design.{Design}
 use Rattle.eco_def.specs.Named.{NamedComp, NamedPin, NamedJoint, NamedNet, NamedDesign}
 use Rattle.eco_def.specs.Sections.{IsReadingOf}
 use Rattle.eco_issued.specs.Changes.{is_no_component}
-use Rattle.eco_net.specs.Netlist.{Name, Kind}
+use Rattle.eco_net.specs.Netlist.{Name, Kind, Netlist}
 use Rattle.eco_full.specs.Netlists.{Kinds, Powers, statements, pin_names}
 use Rattle.eco_full.specs.Described.{IsOn}
-use Rattle.eco_full.specs.Building.{IsPinOf}
+use Rattle.eco_full.specs.Building.{IsPinOf, IsSupplyPinOf, IsListed, HasUnknownPin, HasPinOnTwo}
 use Rattle.eco_places.specs.Places.{PinPlace, top_word, every_word, joints, places}
 use Rattle.eco_places.specs.Faults.{named, first_unknown, first_differing, first_pattern, is_right}
 
@@ -27,17 +27,13 @@ FirstIs P ps (Some p) = IsFirst P ps p
 
 -- ---- joints of no pin
 
--- a component of this name has the pin as a supply pin
-abbrev pub IsSupplyOf : Powers → NamedDesign → Name → Name → Type 0
-IsSupplyOf powers d comp pin = (c : NamedComp) × Contains d.comps c × (c.name ≡ comp) × (powers c.model pin ≡ true)
-
 -- What a joint names: every component that has the pin (in SPECIALNETS alone), a top pin, a pin of a component, or a supply pin
 -- of one.
 pub data NamesPin (kinds : Kinds) (powers : Powers) (d : NamedDesign) (p : PinPlace) : Type 0 where
   EachPin : p.special ≡ true → p.comp ≡ every_word → NamesPin kinds powers d p
   TopPin : p.comp ≡ top_word → (t : NamedPin) → Contains d.pins t → t.name ≡ p.pin → NamesPin kinds powers d p
   SignalPin : is_no_component p.comp ≡ false → IsPinOf kinds d p.comp p.pin → NamesPin kinds powers d p
-  SupplyPin : is_no_component p.comp ≡ false → IsSupplyOf powers d p.comp p.pin → NamesPin kinds powers d p
+  SupplyPin : is_no_component p.comp ≡ false → IsSupplyPinOf powers d p.comp p.pin → NamesPin kinds powers d p
 
 -- the first unknown joint is the first that names no pin
 abbrev pub UnknownIs : Type 0
@@ -85,7 +81,7 @@ PatternIs = (kinds : Kinds) (text : List ℕ) (d : Design) → FirstIs (IsPatter
 
 -- each joint of a component is of its pin or of its supply pin
 abbrev pub AreKnown : Kinds → Powers → NamedDesign → Type 0
-AreKnown kinds powers d = (s : NamedNet) (j : NamedJoint) → Contains (statements d) s → Contains s.joints j → is_no_component j.comp ≡ false → IsPinOf kinds d j.comp j.pin ⊎ IsSupplyOf powers d j.comp j.pin
+AreKnown kinds powers d = (s : NamedNet) (j : NamedJoint) → Contains (statements d) s → Contains s.joints j → is_no_component j.comp ≡ false → IsPinOf kinds d j.comp j.pin ⊎ IsSupplyPinOf powers d j.comp j.pin
 
 -- no pin of a component is on two nets, supply pins aside
 abbrev pub OnOneNet : Kinds → NamedDesign → Type 0
@@ -99,15 +95,20 @@ JointsKnown = (kinds : Kinds) (powers : Powers) (text : List ℕ) (d : Design) �
 abbrev pub OneNet : Type 0
 OneNet = (kinds : Kinds) (text : List ℕ) (d : Design) → IsReadingOf text d → first_differing kinds text d ≡ None → OnOneNet kinds (named text d)
 
+-- So a design in which a joint is unknown has a first unknown joint, and one in which a pin is on two nets has a first place
+-- that differs.
+abbrev pub ReasonsFound : Type 0
+ReasonsFound = (kinds : Kinds) (powers : Powers) (text : List ℕ) (d : Design) → IsReadingOf text d →
+    (first_unknown kinds powers text d ≡ None → HasUnknownPin kinds powers (named text d) → ⊥) × (first_differing kinds text d ≡ None → HasPinOnTwo kinds (named text d) → ⊥)
+
 -- The joints that name no component are right exactly where none of them is unknown and no top pin is on two nets, supply
 -- pins aside.
 abbrev pub TopsAgreeIs : Type 0
 TopsAgreeIs = (kinds : Kinds) (powers : Powers) (text : List ℕ) (d : Design) → IsReadingOf text d →
     (list_all (is_right (named text d)) (joints text d) ≡ true) ↔ (((p : PinPlace) → Contains (joints text d) p → is_no_component p.comp ≡ true → NamesPin kinds powers (named text d) p)
-        × ((p : PinPlace) → Contains (places text d) p → p.comp ≡ top_word → IsSecond kinds (named text d) (places text d) p → ⊥))
+    × ((p : PinPlace) → Contains (places text d) p → p.comp ≡ top_word → IsSecond kinds (named text d) (places text d) p → ⊥))
 
--- Where each joint of a component is known and no pin of one is on two nets, and the joints that name no component are right,
--- no joint is unknown and no place differs.
+-- Where a design is listed, and the joints that name no component are right, no joint is unknown and no place differs.
 abbrev pub NoneWrong : Type 0
-NoneWrong = (kinds : Kinds) (powers : Powers) (text : List ℕ) (d : Design) → IsReadingOf text d → AreKnown kinds powers (named text d) → OnOneNet kinds (named text d) → list_all (is_right (named text d)) (joints text d) ≡ true →
+NoneWrong = (kinds : Kinds) (powers : Powers) (text : List ℕ) (d : Design) (N : Netlist) → IsReadingOf text d → IsListed kinds powers (named text d) N → list_all (is_right (named text d)) (joints text d) ≡ true →
     (first_unknown kinds powers text d ≡ None) × (first_differing kinds text d ≡ None)

@@ -1,5 +1,5 @@
 -- Which pins a design has, by the names of components and of top pins.
-use Rattle.std.specs.Prelude.{Bool, false, not, ◌&&◌, List, map, Option, Some, None, if◌then◌else◌}
+use Rattle.std.specs.Prelude.{Bool, false, not, ◌&&◌, List, Option, Some, None, if◌then◌else◌}
 use Rattle.std.specs.List.{list_any, find}
 use Rattle.std.specs.Option.{option_map}
 use Rattle.std.specs.Str.{bytes_eq}

@@ -27,11 +27,7 @@ pub struct DesignPins<'a> {
 }
 
 /// Adds a component, unless one of its name is there.
-fn add_model<'a>(
-    models: &mut Models<'a>,
-    name: &'a [u8],
-    model: &'a [u8],
-) -> Result<(), AllocError>
+fn add_model<'a>(models: &mut Models<'a>, name: &'a [u8], model: &'a [u8]) -> Result<(), AllocError>
     ensures { OnOk result ((n : List ℕ) → model_by models.new n ≡ option_or (model_by models.old n) (if bytes_eq name.now n then Some model.now else None)) }
 {
     if !models.contains_key(&name) {
@@ -41,11 +37,7 @@ fn add_model<'a>(
 }
 
 /// The models of the components, each by the first of its name.
-fn models_of<'a>(
-    alloc: Global,
-    text: &'a [u8],
-    comps: &[Comp],
-) -> Result<Models<'a>, AllocError>
+fn models_of<'a>(alloc: Global, text: &'a [u8], comps: &[Comp]) -> Result<Models<'a>, AllocError>
     ensures { IfOk result (λ models. (n : List ℕ) → model_by models n ≡ of_named (λ c. word_bytes text.now c.name) (λ c. word_bytes text.now c.model) comps.now n) }
 {
     let mut models = HashMap::new(alloc);
@@ -68,11 +60,7 @@ fn add_top<'a>(tops: &mut Tops<'a>, name: &'a [u8], pin: TopPin) -> Result<(), A
 }
 
 /// The top pins, each the first of its name.
-pub fn tops_of<'a>(
-    alloc: Global,
-    text: &'a [u8],
-    pins: &[TopPin],
-) -> Result<Tops<'a>, AllocError>
+pub fn tops_of<'a>(alloc: Global, text: &'a [u8], pins: &[TopPin]) -> Result<Tops<'a>, AllocError>
     ensures { IfOk result (λ tops. (n : List ℕ) → at_name tops n ≡ find (λ p. bytes_eq (word_bytes text.now p.name) n) pins.now) }
 {
     let mut tops = HashMap::new(alloc);

@@ -71,11 +71,7 @@ fn add_side<'a>(
     Ok(())
 }
 
-fn add_tops<'a>(
-    nets: &mut FirstNets<'a>,
-    text: &'a [u8],
-    pins: &[TopPin],
-) -> Result<(), AllocError>
+fn add_tops<'a>(nets: &mut FirstNets<'a>, text: &'a [u8], pins: &[TopPin]) -> Result<(), AllocError>
     ensures { OnOk result (AddsPlaces nets.old nets.new (map (top_place text.now) pins.now)) }
 {
     for pin in pins {

@@ -84,12 +84,7 @@ pub fn is_signal_pin<M: Macros>(
 }
 
 /// Whether these words name a supply pin.
-pub fn is_supply_pin<M: Macros>(
-    pins: &DesignPins<'_>,
-    macros: &M,
-    comp: &[u8],
-    pin: &[u8],
-) -> bool
+pub fn is_supply_pin<M: Macros>(pins: &DesignPins<'_>, macros: &M, comp: &[u8], pin: &[u8]) -> bool
     ensures { result ≡ is_supply (M.powers macros.now) (parts_by pins.now) comp.now pin.now }
 {
     if is_top(comp) {

@@ -4,6 +4,7 @@ ghost use Rattle.eco_places.specs.Laws.{
   NoneWrong,
   OneNet,
   PatternIs,
+  ReasonsFound,
   TopsAgreeIs,
   UnknownIs,
 };
@@ -39,8 +40,14 @@ pub fn tops_agree_is()
     ensures { TopsAgreeIs }
 {}
 
-/// A law: where each joint of a component is known, no pin of one is on two nets, and the joints that name no component are
-/// right, no joint is unknown and no place differs.
+/// A law: a design in which a joint is unknown has a first unknown joint, and one in which a pin is on two nets has a first
+/// place that differs.
+pub fn reasons_found()
+    ensures { ReasonsFound }
+{}
+
+/// A law: where a design is listed, and the joints that name no component are right, no joint is unknown and no place
+/// differs.
 pub fn none_wrong()
     ensures { NoneWrong }
 {}

@@ -19,13 +19,13 @@ mod words;
 
 pub use crate::faults::{Pattern, TwoNets, UnknownPin};
 pub use crate::laws::{
-    differing_is, joints_known, none_wrong, one_net, pattern_is, tops_agree_is, unknown_is,
+    differing_is, joints_known, none_wrong, one_net, pattern_is, reasons_found, tops_agree_is,
+    unknown_is,
 };
 pub use crate::pattern::find_pattern;
 pub use crate::tops::tops_agree;
 pub use crate::two_nets::find_two_nets;
 pub use crate::unknown::find_unknown_pin;
-
 
 #[cfg(test)]
 mod tests;

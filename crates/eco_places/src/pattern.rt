@@ -52,11 +52,7 @@ fn add_model<'a>(
 }
 
 /// The models of the components, each once.
-fn models_of<'a>(
-    alloc: Global,
-    text: &'a [u8],
-    comps: &[Comp],
-) -> Result<Vec<&'a [u8]>, AllocError>
+fn models_of<'a>(alloc: Global, text: &'a [u8], comps: &[Comp]) -> Result<Vec<&'a [u8]>, AllocError>
     ensures { IfOk result (λ models. (test : Named → Bool) → list_any (λ m. test m.now) models.items ≡ list_any (λ c. test (word_bytes text.now c.model)) comps.now) }
 {
     let mut models = Vec::new(alloc);

@@ -7,7 +7,9 @@ ghost use Rattle.eco_func.specs.FunctionsFile.{find_master};
 ghost use Rattle.eco_net.specs.Listing.{kind_of};
 ghost use Rattle.eco_net.specs.declared.kind.Kind.TheVariants.{Gate};
 
-use crate::{Pattern, TwoNets, UnknownPin, find_pattern, find_two_nets, find_unknown_pin, tops_agree};
+use crate::{
+    Pattern, TwoNets, UnknownPin, find_pattern, find_two_nets, find_unknown_pin, tops_agree,
+};
 use eco_def::read_def;
 use eco_full::Macros;
 use eco_func::{Functions, Memory, read_functions};
@@ -24,6 +26,7 @@ struct Powered {
 
 impl Macros for Powered {
     ghost kinds = { λ t name. option_map (λ m. kind_of (Gate m)) (find_master name t.functions) };
+
     ghost powers = { λ t model pin. bytes_eq pin (codes "VDD") || bytes_eq pin (codes "VSS") };
 
     fn kind(&self, name: &[u8]) -> Result<Option<Kind>, Memory> {
@@ -64,10 +67,18 @@ type Case = (
 );
 
 const A_ON_N1: &str = "PINS 1 ; - a + NET n1 ; END PINS";
+
 const V_IS_SUPPLY: &str = "PINS 1 ; - v + NET n1 + USE POWER ; END PINS";
 
 const CASES: [Case; 16] = [
-    ("", "", "- n1 ( u1 A ) ; - n2 ( u1 Y ) ;", "", Wanted::Nothing, true),
+    (
+        "",
+        "",
+        "- n1 ( u1 A ) ; - n2 ( u1 Y ) ;",
+        "",
+        Wanted::Nothing,
+        true,
+    ),
     (
         "",
         "",
@@ -76,7 +87,14 @@ const CASES: [Case; 16] = [
         Wanted::TwoNets("u1/A", "n1", "n2"),
         true,
     ),
-    ("", "", "- n1 ( u1 A ) ( u1 A ) ;", "", Wanted::Nothing, true),
+    (
+        "",
+        "",
+        "- n1 ( u1 A ) ( u1 A ) ;",
+        "",
+        Wanted::Nothing,
+        true,
+    ),
     (A_ON_N1, "", "- n1 ( PIN a ) ;", "", Wanted::Nothing, true),
     (
         A_ON_N1,
@@ -94,7 +112,14 @@ const CASES: [Case; 16] = [
         Wanted::TwoNets("PIN/a", "n2", "n1"),
         false,
     ),
-    (V_IS_SUPPLY, "", "- n2 ( PIN v ) ;", "", Wanted::Nothing, true),
+    (
+        V_IS_SUPPLY,
+        "",
+        "- n2 ( PIN v ) ;",
+        "",
+        Wanted::Nothing,
+        true,
+    ),
     (
         "",
         "",
@@ -207,9 +232,24 @@ fn the_first_fault_of_each_kind(rt: HostRuntime) -> Result<(), Fail> {
         let bytes = text.as_bytes();
         assert!(rt; bytes.len() <= 10000);
         let design = read_def(alloc, bytes)?;
-        check_unknown(&rt, text, find_unknown_pin(alloc, bytes, &design, &macros)?, wanted);
-        check_two_nets(&rt, text, find_two_nets(alloc, bytes, &design, &macros)?, wanted);
-        check_pattern(&rt, text, find_pattern(alloc, bytes, &design, &macros)?, wanted);
+        check_unknown(
+            &rt,
+            text,
+            find_unknown_pin(alloc, bytes, &design, &macros)?,
+            wanted,
+        );
+        check_two_nets(
+            &rt,
+            text,
+            find_two_nets(alloc, bytes, &design, &macros)?,
+            wanted,
+        );
+        check_pattern(
+            &rt,
+            text,
+            find_pattern(alloc, bytes, &design, &macros)?,
+            wanted,
+        );
         assert_eq!(rt; tops_agree(alloc, bytes, &design)?, tops, "{text}");
     }
     Ok(())

@@ -27,7 +27,13 @@ fn is_top_on(tops: &Tops<'_>, text: &[u8], pin: &[u8], net: &[u8]) -> bool
 
 /// Whether a joint that names no component is right. `PIN` stands for the design's own pins, `*` in SPECIALNETS for every
 /// component that has the pin.
-fn joint_is_right(tops: &Tops<'_>, text: &[u8], net: &NetStatement, joint: &Joint, name: &[u8]) -> bool
+fn joint_is_right(
+    tops: &Tops<'_>,
+    text: &[u8],
+    net: &NetStatement,
+    joint: &Joint,
+    name: &[u8],
+) -> bool
     ensures { result ≡ right_by (λ n. option_map (named_pin text.now) (at_name tops.now n)) net.now.special (word_bytes text.now joint.now.comp) (word_bytes text.now joint.now.pin) name.now }
 {
     let comp = bytes_at(text, joint.comp);

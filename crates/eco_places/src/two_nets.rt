@@ -61,11 +61,7 @@ fn pin_name(alloc: Global, place: &PlacedPin<'_>) -> Result<Name, Memory>
 }
 
 /// What is told of a place, where its pin has a first place.
-fn told<'a>(
-    alloc: Global,
-    nets: &FirstNets<'a>,
-    place: &PlacedPin<'a>,
-) -> Result<TwoNets, Memory>
+fn told<'a>(alloc: Global, nets: &FirstNets<'a>, place: &PlacedPin<'a>) -> Result<TwoNets, Memory>
     requires { IsSome (net_by nets.now place.now.comp.now place.now.pin.now) }
     ensures { IfOk result (λ t. t ≡ two_nets_at (net_by nets.now place.now.comp.now place.now.pin.now) (place_by place.now)) }
 {

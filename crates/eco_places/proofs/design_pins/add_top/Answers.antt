@@ -1,4 +1,4 @@
-use Rattle.std.proofs.Common.{◌≡◌, ◌∙◌, ℕ, Bool, cond, List, [], ◌∷◌, ◌++◌, map, take, get_or, Option, Some, None, sym, ap, subst, ◌+◌}
+use Rattle.std.proofs.Common.{◌∙◌, sym}
 use Rattle.eco_places.proofs.Maps.{put_once}
 use Rattle.eco_places.proofs.design_pins.add_top.Goals as goal
 

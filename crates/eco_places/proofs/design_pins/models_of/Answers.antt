@@ -1,4 +1,4 @@
-use Rattle.std.proofs.Common.{◌≡◌, ◌∙◌, ℕ, Bool, cond, List, [], ◌∷◌, ◌++◌, map, take, get_or, Option, Some, None, sym, ap, subst, ◌+◌}
+use Rattle.std.proofs.Common.{◌∙◌, ℕ, cond, List, get_or, Option, Some, None, sym, ap}
 use Rattle.std.specs.Option.{option_or}
 use Rattle.std.specs.Str.{bytes_eq}
 use Rattle.eco_def.specs.declared.design.Comp.{Comp}

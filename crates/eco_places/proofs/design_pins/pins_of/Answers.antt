@@ -1,10 +1,9 @@
-use Rattle.std.proofs.Common.{◌≡◌, ◌∙◌, ℕ, List, ap}
+use Rattle.std.proofs.Common.{◌∙◌, List, ap}
 use Rattle.std.specs.List.{find}
 use Rattle.std.specs.Str.{bytes_eq}
 use Rattle.eco_def.specs.declared.design.Comp.{Comp}
 use Rattle.eco_def.specs.declared.design.TopPin.{TopPin}
 use Rattle.eco_full.specs.Stated.{word_bytes}
-use Rattle.eco_places.specs.Held.{at_name, model_by}
 use Rattle.eco_places.specs.Pins.{of_named}
 use Rattle.eco_places.proofs.Parts.{parts_are}
 use Rattle.eco_places.proofs.design_pins.pins_of.Goals as goal

@@ -1,4 +1,4 @@
-use Rattle.std.proofs.Common.{List, [], ◌∷◌, map, take, get_or, sym, subst}
+use Rattle.std.proofs.Common.{[], ◌∷◌, map, take, get_or, sym, subst}
 use Rattle.eco_full.proofs.Adding.{mapped_at}
 use Rattle.eco_full.proofs.Fillers.{no_pin}
 use Rattle.eco_places.specs.Held.{AddsPlaces}

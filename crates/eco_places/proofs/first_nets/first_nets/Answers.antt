@@ -1,4 +1,3 @@
-use Rattle.std.proofs.Common.{◌≡◌, sym}
 use Rattle.eco_places.proofs.Order.{all_added}
 use Rattle.eco_places.proofs.first_nets.first_nets.Goals as goal
 

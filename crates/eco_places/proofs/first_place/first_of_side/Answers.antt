@@ -1,7 +1,6 @@
-use Rattle.std.proofs.Common.{◌≡◌, ◌∙◌, true, false, sym}
+use Rattle.std.proofs.Common.{◌∙◌, sym}
 use Rattle.std.specs.List.{filter}
 use Rattle.std.specs.Option.{option_map}
-use Rattle.eco_def.specs.declared.design.NetStatement.{NetStatement}
 use Rattle.eco_places.specs.Held.{place_by, takes}
 use Rattle.eco_places.specs.Places.{joints_among}
 use Rattle.eco_places.proofs.Lists.{some_map, item_some, item_none, side_append}

@@ -1,5 +1,4 @@
 use Rattle.std.proofs.Common.{◌≡◌, ◌∙◌, Bool, true, false, not, sym, refl}
-use Rattle.std.specs.Borrow.{Bor}
 use Rattle.eco_places.proofs.Told.{seen_model}
 use Rattle.eco_places.proofs.pattern.add_model.Goals as goal
 

@@ -1,13 +1,12 @@
-use Rattle.std.proofs.Common.{◌≡◌, ◌∙◌, ℕ, List, Option, Bool, Some, None, sym, ap}
+use Rattle.std.proofs.Common.{◌∙◌, ℕ, List, sym, ap}
 use Rattle.std.specs.List.{find, list_any}
 use Rattle.std.specs.Option.{option_map}
 use Rattle.std.specs.Borrow.{Bor}
 use Rattle.eco_def.specs.declared.design.Comp.{Comp}
 use Rattle.eco_def.specs.declared.design.NetStatement.{NetStatement}
-use Rattle.eco_net.specs.Netlist.{Name}
 use Rattle.eco_full.specs.Stated.{word_bytes}
 use Rattle.eco_places.specs.declared.placed_pin.PlacedPin.{PlacedPin}
-use Rattle.eco_places.specs.Faults.{pattern_at, first_pattern}
+use Rattle.eco_places.specs.Faults.{pattern_at}
 use Rattle.eco_places.specs.Held.{place_by}
 use Rattle.eco_places.specs.Patterns.{is_pattern_on}
 use Rattle.eco_places.specs.Places.{joints_among}

@@ -1,4 +1,4 @@
-use Rattle.std.proofs.Common.{◌≡◌, ◌∙◌, Option, Some, sym, ap}
+use Rattle.std.proofs.Common.{◌∙◌, Some, sym, ap}
 use Rattle.std.specs.Option.{option_map}
 use Rattle.eco_places.specs.declared.placed_pin.PlacedPin.{PlacedPin}
 use Rattle.eco_places.specs.declared.faults.TwoNets.{TwoNets}
