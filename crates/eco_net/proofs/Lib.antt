@@ -40,5 +40,7 @@ pub mod GateTables
 pub mod KeyCounts
 pub mod DepthNumbers
 pub mod DepthNames
+pub mod Removed
+pub mod JoinedNames
 mod Examples
 mod Loops

@@ -40,7 +40,7 @@ found_at {X = X} (d ∷ es) q x e = ⊎_elim
 -- ---- joints by their pins' names
 
 module _ (nets : List NetRow) where
-  joint_none : (ps : List (Name × Role)) (js : List (Option ℕ)) (q : Name) → ((i : ℕ) → slice_get (map (λ p. p.0) ps) i ≡ Some q → ⊥) → find name_cmp q (joints nets ps js) ≡ None
+  pub joint_none : (ps : List (Name × Role)) (js : List (Option ℕ)) (q : Name) → ((i : ℕ) → slice_get (map (λ p. p.0) ps) i ≡ Some q → ⊥) → find name_cmp q (joints nets ps js) ≡ None
   joint_none [] js q a = refl
   joint_none (p ∷ ps) [] q a = refl
   joint_none (p ∷ ps) (None ∷ js) q a = joint_none ps js q (λ i. a (suc i))

@@ -24,3 +24,5 @@ pub mod KeysOf
 pub mod Seen
 pub mod SinksOf
 pub mod ValuesOf
+pub mod Removal
+pub mod JoinedPins

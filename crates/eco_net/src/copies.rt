@@ -70,3 +70,17 @@ impl NetlistMaker {
         })
     }
 }
+
+impl Netlist {
+    /// A maker that holds what the netlist held, with the same numbers. Nothing is copied.
+    pub fn into_maker(self) -> NetlistMaker
+        ensures { result ≡ self }
+    {
+        let Netlist {
+            listed,
+            on_net: _,
+            drivers: _,
+        } = self;
+        listed
+    }
+}

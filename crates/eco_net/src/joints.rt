@@ -19,7 +19,8 @@ impl Model for Joints {
 }
 
 impl Joints {
-    ghost use Rattle.std.specs.Prelude.{◌≡◌, ◌<◌, None, IfOk, length, replicate, slice_set, slice_get};
+    ghost use Rattle.std.specs.Prelude.{◌≡◌, ◌<◌, None, IfOk, length, replicate, slice_set, slice_get, is_some};
+    ghost use Rattle.std.specs.List.{count_by};
 
     /// So many pins on no net.
     pub(crate) fn none(alloc: Global, pins: usize) -> Result<Joints, Memory>
@@ -35,6 +36,13 @@ impl Joints {
         ensures { result ≡ length self.now }
     {
         self.nets.len()
+    }
+
+    /// How many pins are on a net.
+    pub(crate) fn joined(&self) -> usize
+        ensures { result ≡ count_by is_some self.now }
+    {
+        self.nets.iter().filter(|net| net.is_some()).count()
     }
 
     /// The net of a pin.

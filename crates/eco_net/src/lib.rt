@@ -21,6 +21,7 @@ mod netlist;
 mod observables;
 mod pins;
 mod reading;
+mod removal;
 mod rows;
 mod search;
 mod sinks;

@@ -68,6 +68,7 @@ impl Netlist {
     ghost use Rattle.eco_net.specs.ByNumber.{role_at};
     ghost use Rattle.eco_net.specs.Kept.{IsListing};
     ghost use Rattle.eco_net.specs.Pins.{DriverIs};
+    ghost use Rattle.eco_net.specs.JoinedPins.{joined_pins};
 
     /// How many nets, components and top pins it has.
     pub fn counts(&self) -> Counts
@@ -78,6 +79,13 @@ impl Netlist {
         ensures whole { IsWhole (netlist self.now) }
     {
         self.listed.counts()
+    }
+
+    /// How many pins of components are on a net. Top pins are not counted.
+    pub fn joined_pins(&self) -> u64
+        ensures { result ≡ joined_pins (netlist self.now) }
+    {
+        self.listed.joined_pins()
     }
 
     /// The net of a name.

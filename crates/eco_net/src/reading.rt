@@ -5,6 +5,7 @@ ghost use Rattle.std.specs.FinMap.{get};
 ghost use Rattle.std.specs.FinSet.{contains};
 ghost use Rattle.eco_net.specs.Listing.{Listing, netlist, net_names, comp_names, IsKnownPin};
 ghost use Rattle.eco_net.specs.Kept.{IsListing, IsRow};
+ghost use Rattle.eco_net.specs.JoinedPins.{joined_pins};
 ghost use Rattle.eco_net.specs.ByNumber.{net_at, drives, end_of, joint_at};
 
 use crate::ids::{CompId, Counts, NetId, PinRef};
@@ -67,6 +68,17 @@ impl NetlistMaker {
         ensures { result ≡ length self.now.tops }
     {
         self.tops.len() as u32
+    }
+
+    /// How many pins of components are on a net.
+    pub(crate) fn joined_pins(&self) -> u64
+        ensures { result ≡ joined_pins (netlist self.now) }
+    {
+        let mut count = 0;
+        for comp in 0..self.counts().comps {
+            count += self.comp(comp).joined.joined() as u64;
+        }
+        count
     }
 
     /// The net of a number.

@@ -1,0 +1,9 @@
+-- How many pins of components are on a net (LEF/DEF 5.8, "Nets").
+use Rattle.std.specs.Prelude.{ℕ}
+use Rattle.std.specs.List.{sum_by}
+use Rattle.std.specs.FinMap.{len, values}
+use Rattle.eco_net.specs.Netlist.{Netlist}
+
+-- over the components, how many pins of each are on a net; pins of the chip are not counted
+abbrev pub joined_pins : Netlist → ℕ
+joined_pins N = sum_by (λ x. len x.joined) (values N.comps)
