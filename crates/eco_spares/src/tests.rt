@@ -1,4 +1,5 @@
 use crate::{DeskFault, read_desk};
+use std::alloc::Global;
 use std::test::Fail;
 
 const SMALL: &str = "tie_high = \"VDD\"\ntie_low = \"VSS\"\nspares = [\"SP_\"]\n";
@@ -12,6 +13,14 @@ fn a_small_desk_file(rt: HostRuntime) -> Result<(), Fail> {
     assert!(rt; desk.is_spare(b"SP_1") && desk.is_spare(b"SP_"));
     assert!(rt; !desk.is_spare(b"SP") && !desk.is_spare(b"U_SP_1"));
     Ok(())
+}
+
+/// Whether this is the field at fault.
+fn is_at_fault(alloc: Global, field: &[u8], text: &[u8]) -> bool {
+    match read_desk(alloc, text) {
+        Err(DeskFault::BadField { field: found }) => found.is(field),
+        _ => false,
+    }
 }
 
 #[test]
@@ -56,12 +65,10 @@ fn the_first_field_at_fault(rt: HostRuntime) -> Result<(), Fail> {
         ),
     ];
     for (field, text) in cases {
-        match read_desk(rt.alloc(), text.as_bytes()) {
-            Err(DeskFault::BadField { field: found }) => {
-                assert!(rt; found.is(field.as_bytes()), "{field}: {found}")
-            }
-            _ => assert!(rt; false, "{field}"),
-        }
+        assert!(rt;
+            is_at_fault(rt.alloc(), field.as_bytes(), text.as_bytes()),
+            "{field}"
+        );
     }
     Ok(())
 }

@@ -1,0 +1,6 @@
+pub mod Lists
+pub mod TieLaws
+pub mod ConstantPins
+pub mod TieNets
+pub mod Rest
+pub mod Placed

@@ -1,0 +1,20 @@
+-- Laws of tie nets and of stock.
+use Rattle.std.specs.Prelude.{◌≡◌, Bool, true, List}
+use Rattle.eco_net.specs.Netlist.{Name, Netlist, Component}
+use Rattle.eco_patch.specs.Bases.{IsConstant, IsSpare, IsWithout}
+use Rattle.eco_spares.specs.Desk.{Desk}
+use Rattle.eco_stock.specs.Ties.{IsTieNet}
+use Rattle.eco_stock.specs.Stock.{is_stock}
+
+-- A tie net has its value in the netlist.
+abbrev pub TieNetsAreConstant : Type 0
+TieNetsAreConstant = (prefixes : List Name) (N : Netlist) (n : Name) (b : Bool) → IsTieNet prefixes N n b → IsConstant N n b
+
+-- A tie net has its value in the netlist without any components that drive nothing.
+abbrev pub TieNetsStayConstant : Type 0
+TieNetsStayConstant =
+    (prefixes : List Name) (M N : Netlist) (n : Name) (b : Bool) → IsWithout M N → IsTieNet prefixes M n b → IsConstant N n b
+
+-- Stock is a gate whose outputs are on no net.
+abbrev pub StockIsSpare : Type 0
+StockIsSpare = (desk : Desk) (c : Name) (x : Component) → is_stock desk c x ≡ true → IsSpare x

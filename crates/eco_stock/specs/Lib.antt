@@ -1,0 +1,5 @@
+pub mod Ties
+pub mod Constants
+pub mod Stock
+pub mod Found
+pub mod Laws

@@ -1,0 +1,14 @@
+//! The tie nets of a netlist and its stock of spare cells.
+#![tactic(auto)]
+
+mod constant;
+mod finding;
+mod idle;
+mod laws;
+mod stock;
+mod ties;
+
+pub use crate::finding::find_stock;
+pub use crate::laws::{stock_drives_nothing, tie_nets_are_constant};
+pub use crate::stock::{Spare, Stock};
+pub use crate::ties::is_tied;
