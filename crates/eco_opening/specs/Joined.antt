@@ -1,10 +1,10 @@
 -- Whether the four texts of a base, each of which can be read, fit one another: masters, joints and supplies.
-use Rattle.std.specs.Prelude.{◌≡◌, List, Option, Some, None, Result, Ok, Err}
+use Rattle.std.specs.Prelude.{◌≡◌, List, map, Option, Some, None, Result, Ok, Err}
 use Rattle.std.specs.Option.{option_map}
 use Rattle.eco_def.specs.Named.{NamedDesign, names_of}
 use Rattle.eco_def.specs.View.{design_in}
 use Rattle.eco_net.specs.Netlist.{Name}
-use Rattle.eco_net.specs.Listing.{Listing, netlist}
+use Rattle.eco_net.specs.Listing.{Listing, netlist, comp_names as listed_names}
 use Rattle.eco_full.specs.Netlists.{Kinds, Powers}
 use Rattle.eco_full.specs.Stated.{named_comps, named_nets}
 use Rattle.eco_full.specs.Building.{IsListed, first_two_valued}
@@ -24,6 +24,10 @@ use Rattle.eco_opening.specs.Texts.{TextParts}
 -- the design of the DEF text, by names
 abbrev pub design_names : TextParts → NamedDesign
 design_names t = names_of (design_in t.text t.design)
+
+-- the names of its components, in the order of the text
+abbrev pub comp_names : TextParts → List Name
+comp_names t = map (λ c. c.name) (named_comps t.text t.design.comps)
 
 abbrev pub masters_of : TextParts → Masters
 masters_of t = record { library = t.library; functions = t.functions }
@@ -108,9 +112,10 @@ pub record AreJoined (t : TextParts) : Type 0 where
   pub patterns : pattern t ≡ None
   pub supplies : two_valued t ≡ None
 
--- the netlist of all components is listed, its tie nets aside
+-- the netlist of all components is listed, in their order, its tie nets aside
 pub record IsJoined (t : TextParts) (L : Listing) : Type 0 where
   pub faultless : AreJoined t
+  pub numbers : listed_names L ≡ comp_names t
   pub listed : IsListed (kinds t) (powers t) (design_names t) (netlist L)
 
 -- ---- stages
@@ -122,6 +127,7 @@ AreClean t = (unknown_pin t ≡ None) × (two_nets t ≡ None) × (two_valued t 
 -- the netlist of texts whose joints and supplies are clean
 pub record ListsClean (t : TextParts) (L : Listing) : Type 0 where
   pub clean : AreClean t
+  pub numbers : listed_names L ≡ comp_names t
   pub listed : IsListed (kinds t) (powers t) (design_names t) (netlist L)
 
 -- the netlist, exactly where the joints and supplies are clean

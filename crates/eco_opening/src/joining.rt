@@ -5,7 +5,7 @@ ghost use Rattle.eco_opening.specs.Joined.{masters_of, unknown_pin, two_nets, pa
 
 use crate::fault::BaseFault;
 use crate::texts::Texts;
-use eco_full::{DesignFault, first_two_valued, list_design};
+use eco_full::{DesignFault, first_two_valued, list_numbered};
 use eco_func::Name;
 use eco_masters::{MasterFault, MasterTable, check_masters};
 use eco_net::NetlistMaker;
@@ -131,7 +131,7 @@ fn list_clean(
     ensures lists { IfOk result (ListsWhereClean texts.now) }
     ensures memory { IfErr result (λ e. e ≡ BaseFault.Memory) }
 {
-    let maker = match list_design(alloc, texts.text(), texts.design(), table) {
+    let maker = match list_numbered(alloc, texts.text(), texts.design(), table) {
         Ok(maker) => maker,
         Err(DesignFault::Memory) => return Err(BaseFault::Memory),
         Err(_) => return Ok(None),

@@ -67,7 +67,8 @@ impl Texts {
 
     /// The masters of the LEF.
     pub fn library(&self) -> &Library
-        ensures { result.now ≡ self.now.library }
+        ensures value { result.now ≡ self.now.library }
+        ensures read { AreRead self.now }
     {
         &self.library
     }
