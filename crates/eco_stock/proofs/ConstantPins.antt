@@ -1,5 +1,5 @@
 -- Outputs of gates without inputs, by number and by name
-use Rattle.std.proofs.Common.{◌≡◌, ◌↔◌, ℕ, ◌+◌, ◌-◌, ◌<◌, ◌≤◌, ◌^◌, ◌==◌, Bool, true, false, cond, List, [], ◌∷◌, map, length, get_or, Option, Some, None, refl, sym, ap, ◌∙◌, subst, arith, slice_get}
+use Rattle.std.proofs.Common.{◌≡◌, ◌↔◌, ℕ, ◌-◌, ◌<◌, ◌^◌, ◌==◌, Bool, true, false, cond, List, [], ◌∷◌, map, length, get_or, Some, None, refl, sym, ap, ◌∙◌, arith, slice_get}
 use Rattle.std.specs.Option.{option_map}
 use Rattle.std.specs.List.{range_with_len}
 use Rattle.std.specs.FinMap.{get}
@@ -18,7 +18,7 @@ use Rattle.eco_net.proofs.MasterPins.{gate_length}
 use Rattle.eco_net.proofs.KindPins.{output_at, output_pin}
 use Rattle.eco_net.proofs.GateNames.{has_at, box_outside}
 use Rattle.eco_net.proofs.GateTables.{table_inputs}
-use Rattle.eco_stock.specs.Constants.{constant_in, constant_at}
+use Rattle.eco_stock.specs.Constants.{constant_at}
 use Rattle.eco_stock.proofs.Lists.{row_at}
 
 nil_of : {A : Type 0} (xs : List A) → length xs ≡ 0 → xs ≡ []

@@ -1,5 +1,5 @@
 -- Pins at rest by number and by name, and stock as spares
-use Rattle.std.proofs.Common.{◌≡◌, ℕ, ◌<◌, Bool, true, false, not, ◌&&◌, List, ◌∷◌, [], length, Option, Some, None, refl, sym, ap, ◌∙◌, subst, slice_get, is_some, true≢false}
+use Rattle.std.proofs.Common.{◌≡◌, ℕ, ◌<◌, Bool, true, not, ◌&&◌, List, length, Option, Some, None, refl, sym, ap, ◌∙◌, slice_get, is_some, true≢false}
 use Rattle.std.specs.Option.{option_map}
 use Rattle.std.specs.List.{list_all}
 use Rattle.std.specs.FinMap.{get, find}
@@ -8,17 +8,17 @@ use Rattle.eco_net.specs.declared.rows.NetRow.{NetRow}
 use Rattle.eco_net.specs.declared.rows.CompRow.{CompRow}
 use Rattle.eco_net.specs.declared.ids.CompId.{CompId}
 use Rattle.eco_net.specs.declared.ids.PinRef.TheVariants.{Pin as PinNumber}
-use Rattle.eco_net.specs.Netlist.{Name, name_cmp, Component, Kind, Gate, Boxed, Role, Computes, pins_of, role_of}
+use Rattle.eco_net.specs.Netlist.{Name, name_cmp, Component, Kind, Gate, Boxed, Role, Computes, pins_of}
 use Rattle.eco_net.specs.Drivers.{net_of, joined_at, dir_of_role}
-use Rattle.eco_net.specs.Listing.{Listing, netlist, component, pins, pin_at, pin_named, HasPin}
+use Rattle.eco_net.specs.Listing.{Listing, netlist, component, pins, pin_named}
 use Rattle.eco_net.specs.Kept.{IsListing}
 use Rattle.eco_net.specs.ByNumber.{role_at}
-use Rattle.eco_net.proofs.Basics.{same_Some, not_None}
+use Rattle.eco_net.proofs.Basics.{same_Some}
 use Rattle.eco_net.proofs.Named.{comp_is, found_at, pin_known}
 use Rattle.eco_net.proofs.PinNames.{PinRow, pin_name_is}
 use Rattle.eco_patch.specs.Bases.{IsSpare}
 use Rattle.eco_spares.specs.Desk.{Desk, is_spare_named}
-use Rattle.eco_stock.specs.Stock.{is_at_rest, is_gate, is_idle, is_stock}
+use Rattle.eco_stock.specs.Stock.{is_at_rest, is_gate, is_idle}
 use Rattle.eco_stock.specs.Laws.{StockIsSpare}
 use Rattle.eco_stock.proofs.Lists.{all_at}
 

@@ -1,5 +1,5 @@
 -- Tie nets by number and by name
-use Rattle.std.proofs.Common.{◌≡◌, ◌↔◌, ℕ, ◌<◌, Bool, true, false, List, [], ◌∷◌, length, Option, Some, None, refl, sym, ap, ◌∙◌, subst, slice_get, inl, inr, ⊎_elim, true≢false, IsTrue}
+use Rattle.std.proofs.Common.{◌≡◌, ◌↔◌, ℕ, Bool, false, List, [], ◌∷◌, Option, Some, None, sym, ap, ◌∙◌, subst, slice_get, inl, inr, ⊎_elim}
 use Rattle.std.specs.Option.{option_map}
 use Rattle.std.specs.FinMap.{get}
 use Rattle.std.proofs.lemmas.Option.{slice_get-map}
@@ -13,7 +13,6 @@ use Rattle.eco_net.specs.Netlist.{Name, Netlist, Component, Pin, CompPin, Comput
 use Rattle.eco_net.specs.Drivers.{IsDriver}
 use Rattle.eco_net.specs.Listing.{Listing, netlist, component, comp_names, net_name, pin_named, IsKnownPin}
 use Rattle.eco_net.specs.Kept.{IsListing}
-use Rattle.eco_net.specs.Pins.{DriverIs}
 use Rattle.eco_net.proofs.Basics.{same_Some, not_None}
 use Rattle.eco_net.proofs.Named.{comp_is, net_is, role_is}
 use Rattle.eco_net.proofs.PinNames.{pin_row, pin_name_is, net_name_is}

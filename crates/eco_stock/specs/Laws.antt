@@ -1,10 +1,11 @@
 -- Laws of tie nets and of stock.
-use Rattle.std.specs.Prelude.{◌≡◌, Bool, true, List}
-use Rattle.eco_net.specs.Netlist.{Name, Netlist, Component}
+use Rattle.std.specs.Prelude.{◌≡◌, ◌↔◌, Bool, true, List, Some}
+use Rattle.std.specs.FinMap.{get}
+use Rattle.eco_net.specs.Netlist.{Name, Netlist, Component, IsWhole}
 use Rattle.eco_patch.specs.Bases.{IsConstant, IsSpare, IsWithout}
 use Rattle.eco_spares.specs.Desk.{Desk}
 use Rattle.eco_stock.specs.Ties.{IsTieNet}
-use Rattle.eco_stock.specs.Stock.{is_stock}
+use Rattle.eco_stock.specs.Stock.{is_stock, IsStock}
 
 -- A tie net has its value in the netlist.
 abbrev pub TieNetsAreConstant : Type 0
@@ -18,3 +19,7 @@ TieNetsStayConstant =
 -- Stock is a gate whose outputs are on no net.
 abbrev pub StockIsSpare : Type 0
 StockIsSpare = (desk : Desk) (c : Name) (x : Component) → is_stock desk c x ≡ true → IsSpare x
+
+-- The test for stock says what stock is in words.
+abbrev pub StockInWords : Type 0
+StockInWords = (desk : Desk) (N : Netlist) → IsWhole N → (c : Name) (x : Component) → get N.comps c ≡ Some x → is_stock desk c x ≡ true ↔ IsStock desk c x

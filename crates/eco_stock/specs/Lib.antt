@@ -3,3 +3,4 @@ pub mod Constants
 pub mod Stock
 pub mod Found
 pub mod Laws
+pub mod Without

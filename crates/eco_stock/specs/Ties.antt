@@ -1,5 +1,5 @@
 -- The tie nets of a netlist, by names.
-use Rattle.std.specs.Prelude.{◌≡◌, Bool, true, false, cond, List, [], ◌∷◌, ◌⊎◌, Some, None}
+use Rattle.std.specs.Prelude.{◌≡◌, Bool, false, cond, List, [], ◌∷◌, ◌⊎◌, Some, None}
 use Rattle.std.specs.FinMap.{get}
 use Rattle.eco_net.specs.Netlist.{Name, Netlist, Component, Pin, TopPin, CompPin, Computes, role_of, inputs_of}
 use Rattle.eco_net.specs.Drivers.{IsDriver}

@@ -1,4 +1,4 @@
-use Rattle.std.proofs.Common.{Some, sym, ap, ◌∙◌}
+use Rattle.std.proofs.Common.{Some, ap, ◌∙◌}
 use Rattle.std.specs.Cmp.{booleans_Decides}
 use Rattle.eco_stock.proofs.TieNets.{supplied}
 use Rattle.eco_stock.proofs.ties.is_tie_net.Goals as goal
