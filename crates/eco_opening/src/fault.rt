@@ -55,7 +55,7 @@ pub enum BaseFault {
     TieNotConstant { net: Name },
     /// More spares are stock than may be.
     #[error("TooMuchStock count={count}")]
-    TooMuchStock { count: u32 },
+    TooMuchStock { count: usize },
     /// A signal runs in a circle through gates that aren't stock.
     #[error("Loop nets={nets}")]
     Loop { nets: Names },
