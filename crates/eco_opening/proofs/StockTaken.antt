@@ -1,9 +1,8 @@
 -- What the code finds in the netlist of all components is the stock of the texts, and what it leaves is their base.
-use Rattle.std.proofs.Common.{◌≡◌, ℕ, ◌≤◌, Bool, true, false, List, map, Option, Some, None, length, count_by, slice_get, refl, sym, ap, ◌∙◌, subst, ⊎_elim}
+use Rattle.std.proofs.Common.{◌≡◌, ℕ, suc, ◌≤◌, Bool, true, false, List, [], ◌∷◌, map, Option, Some, None, length, count_by, slice_get, refl, sym, ap, ◌∙◌, subst, ⊎_elim}
 use Rattle.std.specs.List.{All}
 use Rattle.std.specs.Option.{option_map}
 use Rattle.std.specs.FinMap.{get}
-use Rattle.std.proofs.lemmas.List.{length-map}
 use Rattle.eco_net.specs.Netlist.{Name, Netlist, IsNet, IsWhole}
 use Rattle.eco_net.specs.Walks.{IsLoopFree}
 use Rattle.eco_net.specs.Listing.{Listing, netlist, comp_names as listed_names}
@@ -22,6 +21,10 @@ use Rattle.eco_opening.specs.Bases.{listed_netlist, stock_names, frozen}
 use Rattle.eco_opening.specs.Opened.{AreTied}
 use Rattle.eco_opening.specs.Stocked.{IsGateRow, IsStocked}
 use Rattle.eco_opening.proofs.StockRows.{gate_rows, spares_of, stock_named, skipped_is}
+
+length_mapped : {A B : Type 0} (f : A → B) (xs : List A) → length (map f xs) ≡ length xs
+length_mapped f [] = refl
+length_mapped f (x ∷ xs) = ap suc (length_mapped f xs)
 
 -- a tie net is a net
 pub tie_is_net : (prefixes : List Name) (N : Netlist) (n : Name) (b : Bool) → IsTieNet prefixes N n b → IsNet N n
@@ -42,7 +45,7 @@ module _ (t : TextParts) (L : Listing) (is : IsListing L) (same : netlist L ≡ 
       (λ rows. stock_named t L is same names spares rows)
 
   pub count_is : (desk : Desk) → desk ≡ t.desk → (spares : List Spare) → map place_of_spare spares ≡ map place_in_row (stock_rows desk L) → length spares ≡ length (stock_names t)
-  count_is desk e spares rows = sym (length-map (λ (s : Spare). s.name) spares) ∙ ap length (names_are desk e spares rows)
+  count_is desk e spares rows = sym (length_mapped (λ (s : Spare). s.name) spares) ∙ ap length (names_are desk e spares rows)
 
   pub base_is : (desk : Desk) → desk ≡ t.desk → (spares : List Spare) → map place_of_spare spares ≡ map place_in_row (stock_rows desk L) → (N : Netlist) → N ≡ without_spares (netlist L) desk (spare_names spares) → N ≡ bare (frozen t)
   base_is desk e spares rows N is_without =

@@ -29,7 +29,7 @@ impl Model for Base {
 }
 
 impl Base {
-    ghost use Rattle.std.specs.Prelude.{◌≡◌, ◌<◌, Some, length, slice_get};
+    ghost use Rattle.std.specs.Prelude.{◌≡◌};
     ghost use Rattle.eco_opening.specs.Bases.{BaseParts, IsOpen};
     ghost use Rattle.eco_stock.specs.Ties.{tie_name};
 
@@ -87,16 +87,12 @@ impl Base {
         &self.stock
     }
 
-    /// What a spare of the stock computes.
-    pub fn spare_fn(&self, spare: u32) -> &MasterFn
-        requires { spare < length self.now.stock }
-        ensures value { slice_get self.now.functions spare ≡ Some result.now }
+    /// What each spare of the stock computes, in their order.
+    pub fn spare_fns(&self) -> &[MasterFn]
+        ensures value { result.now ≡ self.now.functions }
         ensures open { IsOpen self.now }
     {
-        match self.functions.get(spare as usize) {
-            Some(function) => function,
-            None => unreachable!(),
-        }
+        &self.functions
     }
 
     /// How many components are spare-named and no stock.
