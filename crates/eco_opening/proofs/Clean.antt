@@ -50,6 +50,7 @@ module _ (kinds : Kinds) (powers : Powers) (text : List ℕ) (d : Design) (read 
     tops_not_wrong wrong =
         for_each (NamesPin kinds powers (named text d)) (joints text d)
         (λ p h. first_none (λ q. NamesPin kinds powers (named text d) q → ⊥) (joints text d) (first_unknown kinds powers text d) (unknown_is kinds powers text d read) pins p (contains_from_has (joints text d) p h))
-        (λ names. true≢false (sym ((tops_agree_is kinds powers text d read).1
-        (λ p c e. names p (has_from_contains (joints text d) p c),
-        λ p c e second. first_none (IsSecond kinds (named text d) (places text d)) (places text d) (first_differing kinds text d) (differing_is kinds text d read) nets p c second)) ∙ wrong))
+        (λ names. true≢false (sym ((tops_agree_is kinds powers text d read).1 (
+          λ p c e. names p (has_from_contains (joints text d) p c),
+          λ p c e second. first_none (IsSecond kinds (named text d) (places text d)) (places text d) (first_differing kinds text d) (differing_is kinds text d read) nets p c second,
+        )) ∙ wrong))

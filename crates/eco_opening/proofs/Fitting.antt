@@ -134,8 +134,11 @@ module _ (t : TextParts) where
         (subst (λ z. IsListed (kinds_of m.library m.functions) (powers_of m.library) (names_of (design_in z design)) (netlist L)) f is)) in
         let clean = clean_of (kinds t) (powers t) t.text t.design read.reading (netlist L) here right in
         record {
-          clean = (mapped_none unknown_at (first_unknown_pin (kinds t) (powers t) t.text t.design) clean.0,
-          mapped_none (λ p. two_nets_at (first_net (places t.text t.design) p.comp p.pin) p) (first_differing (kinds t) t.text t.design) clean.1, clean.2);
+          clean = (
+            mapped_none unknown_at (first_unknown_pin (kinds t) (powers t) t.text t.design) clean.0,
+            mapped_none (λ p. two_nets_at (first_net (places t.text t.design) p.comp p.pin) p) (first_differing (kinds t) t.text t.design) clean.1,
+            clean.2,
+          );
           numbers = numbers ∙ (λ i. map (λ (c : NamedComp). c.name) (named_comps (f i) (g i).comps));
           listed = here;
         }

@@ -151,9 +151,10 @@ module _ (t : TextParts) (L : Listing) (is : IsListing L) (same : netlist L ≡ 
   spares_of rows [] (f ∷ fs) in' e at k = absurd (not_nil k)
   spares_of rows (s ∷ spares) [] in' e at k = absurd (nil_not k)
   spares_of [] (s ∷ spares) (f ∷ fs) in' e at k = absurd (not_nil e)
-  spares_of (r ∷ rows) (s ∷ spares) (f ∷ fs) in' e at k =
-      (spare_of r s f (in' r (inl refl)) (pair_is r s (same_head e)) (All-head AtNumber s spares at) (same_head k),
-      spares_of rows spares fs (λ q h. in' q (inr h)) (same_tail e) (All-tail AtNumber s spares at) (same_tail k))
+  spares_of (r ∷ rows) (s ∷ spares) (f ∷ fs) in' e at k = (
+    spare_of r s f (in' r (inl refl)) (pair_is r s (same_head e)) (All-head AtNumber s spares at) (same_head k),
+    spares_of rows spares fs (λ q h. in' q (inr h)) (same_tail e) (All-tail AtNumber s spares at) (same_tail k),
+  )
 
   -- their names
   pub stock_named : (spares : List Spare) → map place_of_spare spares ≡ map place_in_row (filter stock_row L.comps) → map (λ (s : Spare). s.name) spares ≡ stock_names t

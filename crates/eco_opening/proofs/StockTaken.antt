@@ -31,9 +31,10 @@ pub tie_is_net : (prefixes : List Name) (N : Netlist) (n : Name) (b : Bool) → 
 tie_is_net prefixes N n b tied = ⊎_elim (λ s. (Some b, s)) (λ d. (None, d.0)) tied
 
 pub both_tied : (t : TextParts) (N : Netlist) → N ≡ listed_netlist t → (desk : Desk) → desk ≡ t.desk → IsTieNet desk.prefixes N desk.high true → IsTieNet desk.prefixes N desk.low false → AreTied t
-both_tied t N same desk e high low =
-    (subst (λ (M : Netlist). IsTieNet t.desk.prefixes M t.desk.high true) same (subst (λ (d : Desk). IsTieNet d.prefixes N d.high true) e high),
-    subst (λ (M : Netlist). IsTieNet t.desk.prefixes M t.desk.low false) same (subst (λ (d : Desk). IsTieNet d.prefixes N d.low false) e low))
+both_tied t N same desk e high low = (
+  subst (λ (M : Netlist). IsTieNet t.desk.prefixes M t.desk.high true) same (subst (λ (d : Desk). IsTieNet d.prefixes N d.high true) e high),
+  subst (λ (M : Netlist). IsTieNet t.desk.prefixes M t.desk.low false) same (subst (λ (d : Desk). IsTieNet d.prefixes N d.low false) e low),
+)
 
 module _ (t : TextParts) (L : Listing) (is : IsListing L) (same : netlist L ≡ listed_netlist t) (names : listed_names L ≡ comp_names t) where
   pub all_gates : (desk : Desk) → desk ≡ t.desk → (spares : List Spare) → map place_of_spare spares ≡ map place_in_row (stock_rows desk L) → AreNumbered L spares → All (λ (s : Spare). IsGateRow (slice_get L.comps s.comp)) spares

@@ -24,17 +24,27 @@ pub enum BaseFault {
     Func(FuncFault),
     /// The first field of the desk file that is at fault, or `file` where it is no TOML document.
     #[error("Desk field={field}")]
-    Desk { field: Name },
+    Desk {
+        field: Name,
+    },
     /// The first component whose model isn't in the library.
     #[error("UnknownMaster comp={comp}")]
-    UnknownMaster { comp: Name },
+    UnknownMaster {
+        comp: Name,
+    },
     /// The first used master of the library whose pins aren't those that the functions file lists, supply pins aside, and
     /// the first such pin by bytes.
     #[error("FunctionPins master={master} pin={pin}")]
-    FunctionPins { master: Name, pin: Name },
+    FunctionPins {
+        master: Name,
+        pin: Name,
+    },
     /// The first joint that names no component, no pin of its master or no top pin. `place` is its `(`, in bytes from 0.
     #[error("UnknownPin net={net} place={place}")]
-    UnknownPin { net: Name, place: u32 },
+    UnknownPin {
+        net: Name,
+        place: u32,
+    },
     /// A pin that isn't supply stands on two nets: written `comp/pin`, with the net at its first place, and the first net
     /// in the text that differs from that.
     #[error("PinNetDiffers pin={pin} first={first} second={second}")]
@@ -45,20 +55,31 @@ pub enum BaseFault {
     },
     /// The first `*` in SPECIALNETS with a pin that isn't supply on some component's master.
     #[error("PatternOnSignal net={net} pin={pin}")]
-    PatternOnSignal { net: Name, pin: Name },
+    PatternOnSignal {
+        net: Name,
+        pin: Name,
+    },
     /// The first net that has `USE POWER` in one statement and `USE GROUND` in another.
     #[error("SupplyDiffers net={net}")]
-    SupplyDiffers { net: Name },
+    SupplyDiffers {
+        net: Name,
+    },
     /// A tie net that is neither a supply of its value nor computed with that value by a gate without inputs that isn't
     /// spare-named. The one of `tie_high` comes first.
     #[error("TieNotConstant net={net}")]
-    TieNotConstant { net: Name },
+    TieNotConstant {
+        net: Name,
+    },
     /// More spares are stock than may be.
     #[error("TooMuchStock count={count}")]
-    TooMuchStock { count: usize },
+    TooMuchStock {
+        count: usize,
+    },
     /// A signal runs in a circle through gates that aren't stock.
     #[error("Loop nets={nets}")]
-    Loop { nets: Names },
+    Loop {
+        nets: Names,
+    },
     /// Want of memory.
     #[error("memory")]
     Memory,

@@ -19,7 +19,13 @@ fn check_fit(alloc: Global, texts: &Texts) -> Result<(), BaseFault>
     ensures fit { OnOk result (MastersFit texts.now) }
     ensures fault { IfErr result (BlamesMasters texts.now) }
 {
-    match check_masters(alloc, texts.text(), texts.design(), texts.library(), texts.functions()) {
+    match check_masters(
+        alloc,
+        texts.text(),
+        texts.design(),
+        texts.library(),
+        texts.functions(),
+    ) {
         Ok(()) => Ok(()),
         Err(MasterFault::UnknownMaster { comp }) => Err(BaseFault::UnknownMaster { comp }),
         Err(MasterFault::FunctionPins { master, pin }) => {

@@ -98,11 +98,7 @@ fn functions_of(alloc: Global, net: &Netlist, spares: &[Spare]) -> Result<Vec<Ma
 /// Takes the stock out of the netlist of all components.
 ///
 /// Refuses a tie net that isn't one, too much stock, and a loop in what is left, in this order.
-pub fn take_stock(
-    alloc: Global,
-    texts: &Texts,
-    maker: NetlistMaker,
-) -> Result<Stocked, BaseFault>
+pub fn take_stock(alloc: Global, texts: &Texts, maker: NetlistMaker) -> Result<Stocked, BaseFault>
     requires { IsJoined texts.now maker }
     ensures stocked { IfOk result (IsStocked texts.now) }
     ensures fault { IfErr result (BlamesStock texts.now) }
@@ -116,7 +112,11 @@ pub fn take_stock(
     let functions = functions_of(alloc, &full, &stock.spares)?;
     let netlist = without_stock(alloc, full, desk, &stock)?;
     check_loops(alloc, &netlist)?;
-    let Stock { spares, marks: _, skipped } = stock;
+    let Stock {
+        spares,
+        marks: _,
+        skipped,
+    } = stock;
     Ok(Stocked {
         netlist,
         spares,
