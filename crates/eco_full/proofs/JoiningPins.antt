@@ -1,5 +1,5 @@
 -- Pins put on nets one after another.
-use Rattle.std.proofs.Common.{◌≡◌, ◌≢◌, ℕ, ◌<◌, List, [], ◌∷◌, ◌++◌, length, slice_get, Option, Some, None, refl, sym, ap, ◌∙◌, subst, inl, inr, ⊎_elim}
+use Rattle.std.proofs.Common.{◌≡◌, ◌≢◌, ℕ, suc, ◌<◌, List, [], ◌∷◌, ◌++◌, map, length, slice_get, Option, Some, None, refl, sym, ap, ◌∙◌, subst, inl, inr, ⊎_elim}
 use Rattle.std.specs.Option.{option_map, unwrap_or}
 use Rattle.std.specs.FinMap.{get}
 use Rattle.std.proofs.lemmas.List.{map-append}
@@ -10,7 +10,7 @@ use Rattle.eco_net.specs.declared.rows.CompRow.{CompRow}
 use Rattle.eco_net.specs.declared.rows.NetRow.{NetRow}
 use Rattle.eco_net.specs.Netlist.{Name, Component, Netlist, CompPin, pins_of}
 use Rattle.eco_net.specs.Drivers.{net_of}
-use Rattle.eco_net.specs.Listing.{Listing, netlist, component, kind_of, net_name, pin_at, pin_named, with_joint, HasPin}
+use Rattle.eco_net.specs.Listing.{Listing, netlist, component, comp_names, kind_of, net_name, pin_at, pin_named, with_joint, HasPin}
 use Rattle.eco_net.specs.Changes.{with_pin_on, on_net as put_pin}
 use Rattle.eco_net.specs.Kept.{IsListing}
 use Rattle.eco_net.proofs.Basics.{Has, contains_from_has, has_from_contains, has_append_left, has_append_right, has_map, has_of_map, same_Some, not_None}
@@ -114,6 +114,17 @@ same_name None None e = refl
 same_name None (Some s) e = absurd (not_None (sym e))
 same_name (Some r) None e = absurd (not_None e)
 same_name (Some r) (Some s) e = ap (λ z. z.0) (same_Some e)
+
+same_row_names : (rows others : List CompRow) → ((i : ℕ) → option_map name_and_kind (slice_get rows i) ≡ option_map name_and_kind (slice_get others i)) → map (λ (r : CompRow). r.name) rows ≡ map (λ (r : CompRow). r.name) others
+same_row_names [] [] e = refl
+same_row_names [] (s ∷ others) e = absurd (not_None (sym (e 0)))
+same_row_names (r ∷ rows) [] e = absurd (not_None (e 0))
+same_row_names (r ∷ rows) (s ∷ others) e =
+    let first : r.name ≡ s.name = ap (λ (z : Name × Given). z.0) (same_Some (e 0)) in
+    ap (λ n. n ∷ map (λ (r : CompRow). r.name) rows) first ∙ ap (λ ns. s.name ∷ ns) (same_row_names rows others (λ i. e (suc i)))
+
+pub same_comp_names : (M L : Listing) → SameNumbers L M → comp_names M ≡ comp_names L
+same_comp_names M L same = same_row_names M.comps L.comps same.comps
 
 same_pin : (o p : Option CompRow) (k : ℕ) → option_map name_and_kind o ≡ option_map name_and_kind p → pin_name o k ≡ pin_name p k
 same_pin None None k e = refl

@@ -19,7 +19,7 @@ pub use crate::laws::{
     apart_is, can_join_is, components_stay, issued_is, netlist_is, netlist_whole, none_unnamed,
     nothing_moves, read_once, rewired_is, still_consistent, still_whole, two_valued_is,
 };
-pub use crate::listing::list_design;
+pub use crate::listing::{list_design, list_numbered};
 pub use crate::macros::Macros;
 pub use crate::supplies::first_two_valued;
 pub use crate::words::{bytes_at, is_no_component};

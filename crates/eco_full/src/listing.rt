@@ -1,10 +1,12 @@
 //! Listing the netlist of a design.
 
-ghost use Rattle.std.specs.Prelude.{IfOk, IfErr};
+ghost use Rattle.std.specs.Prelude.{◌≡◌, map, IfOk, IfErr};
 ghost use Rattle.eco_def.specs.Named.{names_of};
 ghost use Rattle.eco_def.specs.View.{design_in};
 ghost use Rattle.eco_def.specs.Sections.{IsReadingOf};
+ghost use Rattle.eco_net.specs.Listing.{comp_names};
 ghost use Rattle.eco_full.specs.Building.{Lists};
+ghost use Rattle.eco_full.specs.Stated.{named_comps};
 ghost use Rattle.eco_full.specs.Stages.{value_of, NetsListed, PartsListed, MacroFault};
 
 use crate::fault::DesignFault;
@@ -54,6 +56,30 @@ fn list_parts<M: Macros>(
     Ok(maker)
 }
 
+/// Lists the netlist of a design, as `list_design` does: its components are numbered in the order of the design's text.
+pub fn list_numbered<M: Macros>(
+    alloc: Global,
+    text: &[u8],
+    design: &Design,
+    macros: &M,
+) -> Result<NetlistMaker, DesignFault>
+    requires { IsReadingOf text.now design.now }
+    ensures lists { Lists (M.kinds macros.now) (M.powers macros.now) (names_of (design_in text.now design.now)) result }
+    ensures numbers { IfOk result (λ m. comp_names m ≡ map (λ c. c.name) (named_comps text.now design.now.comps)) }
+{
+    let nets = design.nets.as_slice();
+    let supplies = first_supplies(alloc, text, nets)?;
+    let mut maker = list_parts(alloc, text, design, macros, &supplies)?;
+    let _listing = maker.counts();
+    let comps = design.comps.as_slice();
+    let pins = find_pins(alloc, &maker, text, comps, macros, nets)?;
+    join_pins(&mut maker, pins.as_slice())?;
+    if !supplies_agree(text, nets, &supplies) {
+        return Err(DesignFault::SupplyDiffers);
+    }
+    Ok(maker)
+}
+
 /// Lists the netlist of a design, its tie nets aside.
 ///
 /// The design is the reading of the text. Its nets are numbered by the order of their first statements, and behind them
@@ -68,15 +94,5 @@ pub fn list_design<M: Macros>(
     requires { IsReadingOf text.now design.now }
     ensures { Lists (M.kinds macros.now) (M.powers macros.now) (names_of (design_in text.now design.now)) result }
 {
-    let nets = design.nets.as_slice();
-    let supplies = first_supplies(alloc, text, nets)?;
-    let mut maker = list_parts(alloc, text, design, macros, &supplies)?;
-    let _listing = maker.counts();
-    let comps = design.comps.as_slice();
-    let pins = find_pins(alloc, &maker, text, comps, macros, nets)?;
-    join_pins(&mut maker, pins.as_slice())?;
-    if !supplies_agree(text, nets, &supplies) {
-        return Err(DesignFault::SupplyDiffers);
-    }
-    Ok(maker)
+    list_numbered(alloc, text, design, macros)
 }

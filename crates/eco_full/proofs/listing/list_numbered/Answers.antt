@@ -10,8 +10,9 @@ use Rattle.eco_net.proofs.Basics.{Has, has_from_contains}
 use Rattle.eco_full.specs.declared.joined_pin.JoinedPin.{JoinedPin}
 use Rattle.eco_full.specs.Stated.{named_comps, named_net, named_nets, supply_among, all_pins_on}
 use Rattle.eco_full.specs.Stages.{value_of, keeps_value, joint_of, joints_of, known_pins, has_supply_pin, FindsPins, PinFault, JoinFault, JoinsPins}
+use Rattle.eco_full.proofs.JoiningPins.{same_comp_names}
 use Rattle.eco_full.proofs.Whole.{statement_net, off_all, pin_fault, join_fault, supply_fault, whole}
-use Rattle.eco_full.proofs.listing.list_design.Goals as goal
+use Rattle.eco_full.proofs.listing.list_numbered.Goals as goal
 
 pub find_pins-requires-clause-numbers : goal.find_pins-requires-clause-numbers
 find_pins-requires-clause-numbers g c =
@@ -22,8 +23,8 @@ find_pins-requires-clause-nets g c s h =
     statement_net c.args.text.now c.args.design.now (value_of c.in_ok-supplies.supplies) (netlist c.in_ok-maker.maker) c.in_ok-maker.ensures.ok.nets s
     (subst (λ (ss : List NetStatement). Has (named_nets c.args.text.now ss) s) c.as_slice-nets.ensures (has_from_contains (named_nets c.args.text.now c.as_slice-nets.result.now) s h))
 
-pub returns-in_err-pins : goal.returns-in_err-pins
-returns-in_err-pins g c =
+pub returns-in_err-pins-clause-lists : goal.returns-in_err-pins-clause-lists
+returns-in_err-pins-clause-lists g c =
     let p = err_from_is_err_and c.from_residual-in_err-pins.result c.from_residual-in_err-pins.ensures.1 in
     let text = c.args.text.now in
     let d = c.args.design.now in
@@ -46,8 +47,8 @@ join_pins-requires-clause-off g c p h =
     off_all c.args.text.now c.args.design.now c.requires (g.M.Macros.kinds c.args.macros.now) (named_comps c.args.text.now c.args.design.now.comps) (netlist c.in_ok-maker.maker) c.in_ok-maker.ensures.ok.comps
     (joint_of c.in_ok-maker.maker p).comp (joint_of c.in_ok-maker.maker p).pin
 
-pub returns-in_err-join_pins : goal.returns-in_err-join_pins
-returns-in_err-join_pins g c =
+pub returns-in_err-join_pins-clause-lists : goal.returns-in_err-join_pins-clause-lists
+returns-in_err-join_pins-clause-lists g c =
     let p = err_from_is_err_and c.from_residual-in_err-join_pins.result c.from_residual-in_err-join_pins.ensures.1 in
     let text = c.args.text.now in
     let d = c.args.design.now in
@@ -61,8 +62,8 @@ returns-in_err-join_pins g c =
     (join_fault text d c.requires (g.M.Macros.kinds c.args.macros.now) (g.M.Macros.powers c.args.macros.now) (value_of c.in_ok-supplies.supplies) values L c.in_ok-maker.ensures.ok e
     (subst (λ (js : List NewJoint). JoinFault js e) joints c.in_err-join_pins.ensures.err))
 
-pub returns-then-not-supplies_agree : goal.returns-then-not-supplies_agree
-returns-then-not-supplies_agree g c =
+pub returns-then-not-supplies_agree-clause-lists : goal.returns-then-not-supplies_agree-clause-lists
+returns-then-not-supplies_agree-clause-lists g c =
     let text = c.args.text.now in
     let d = c.args.design.now in
     let value = value_of c.in_ok-supplies.supplies in
@@ -71,8 +72,8 @@ returns-then-not-supplies_agree g c =
     supply_fault text d c.requires (g.M.Macros.kinds c.args.macros.now) (g.M.Macros.powers c.args.macros.now) value values c.in_ok-maker.maker c.in_ok-maker.ensures.ok
     (ap (list_all (λ (s : NetStatement). keeps_value value (named_net text s))) (sym c.as_slice-nets.ensures) ∙ sym c.supplies_agree.ensures ∙ c.if-not-supplies_agree.true)
 
-pub returns : goal.returns
-returns g c =
+pub returns-clause-lists : goal.returns-clause-lists
+returns-clause-lists g c =
     let text = c.args.text.now in
     let d = c.args.design.now in
     let L = c.in_ok-maker.maker in
@@ -85,3 +86,6 @@ returns g c =
     (subst (λ (ss : List NetStatement). FindsPins (has_supply_pin powers (named_comps text c.as_slice-comps.result.now)) L (all_pins_on (named_nets text ss)) [] c.in_ok-pins.pins.items) c.as_slice-nets.ensures c.in_ok-pins.ensures.ok))
     c.join_pins.new.maker (subst (λ (ps : List JoinedPin). JoinsPins L ps c.join_pins.new.maker) c.as_slice.ensures.value c.in_ok-join_pins.ensures.ok)
     (ap (list_all (λ (s : NetStatement). keeps_value value (named_net text s))) (sym c.as_slice-nets.ensures) ∙ sym c.supplies_agree.ensures ∙ c.if-not-supplies_agree.false)
+
+pub returns-clause-numbers : goal.returns-clause-numbers
+returns-clause-numbers g c = same_comp_names c.join_pins.new.maker c.in_ok-maker.maker c.in_ok-join_pins.ensures.ok.same ∙ c.in_ok-maker.ensures.ok.numbers

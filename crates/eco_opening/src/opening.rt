@@ -1,0 +1,41 @@
+//! Opening a base.
+
+ghost use Rattle.std.specs.Prelude.{◌≤◌, length};
+ghost use Rattle.eco_opening.specs.Opened.{Opens};
+
+use crate::base::Base;
+use crate::digest::digest_of;
+use crate::fault::BaseFault;
+use crate::joining::list_joined;
+use crate::reading::read_texts;
+use crate::stocking::take_stock;
+use std::alloc::Global;
+
+/// Opens the base of a LEF of at most 67,108,864 bytes, a DEF of at most 134,217,728 bytes, a functions file and a desk
+/// file.
+///
+/// Faults come in the order of `BaseFault`, of each kind the first.
+pub fn open_base(
+    alloc: Global,
+    lef: Vec<u8>,
+    def: Vec<u8>,
+    functions: Vec<u8>,
+    desk: Vec<u8>,
+) -> Result<Base, BaseFault>
+    requires lef { length lef.items ≤ 67108864 }
+    requires def { length def.items ≤ 134217728 }
+    ensures { Opens lef.items def.items functions.items desk.items result }
+{
+    let digest = digest_of(&lef, &def, &functions, &desk);
+    let texts = read_texts(alloc, &lef, def, &functions, &desk)?;
+    let maker = list_joined(alloc, &texts)?;
+    let stocked = take_stock(alloc, &texts, maker)?;
+    Ok(Base::of(
+        texts,
+        stocked.netlist,
+        stocked.spares,
+        stocked.functions,
+        stocked.skipped,
+        digest,
+    ))
+}

@@ -1,0 +1,15 @@
+//! A base's netlist without its stock, and the stock.
+
+use eco_func::MasterFn;
+use eco_net::Netlist;
+use eco_stock::Spare;
+
+/// The netlist without the stock, each spare of the stock, what it computes, and how many spare-named components are no
+/// stock.
+#[derive(Drop)]
+pub struct Stocked {
+    pub netlist: Netlist,
+    pub spares: Vec<Spare>,
+    pub functions: Vec<MasterFn>,
+    pub skipped: u32,
+}

@@ -1,0 +1,126 @@
+//! The tie nets and the stock of a base, and its netlist without the stock.
+
+ghost use Rattle.std.specs.Prelude.{◌≡◌, ◌≤◌, true, false, Some, map, length, slice_get, IfOk, IfErr, OnOk};
+ghost use Rattle.std.specs.List.{All};
+ghost use Rattle.std.specs.Option.{option_map};
+ghost use Rattle.eco_net.specs.Listing.{netlist};
+ghost use Rattle.eco_net.specs.Walks.{IsLoopFree, IsClosedWalk};
+ghost use Rattle.eco_net.specs.declared.kind.Kind.TheVariants.{Gate};
+ghost use Rattle.eco_stock.specs.Ties.{tie_name, IsTieNet};
+ghost use Rattle.eco_opening.specs.Joined.{IsJoined};
+ghost use Rattle.eco_opening.specs.Opened.{BlamesStock};
+ghost use Rattle.eco_opening.specs.Stocked.{BlamesTie, BlamesTies, BlamesCount, BlamesLoop, IsGateRow, IsStocked};
+
+use crate::fault::BaseFault;
+use crate::stocked::Stocked;
+use crate::texts::Texts;
+use eco_func::{MasterFn, Memory, Name};
+use eco_net::{CompId, Kind, LoopFault, Netlist, NetlistMaker};
+use eco_spares::DeskFile;
+use eco_stock::{Spare, Stock, find_stock, is_tied, without_stock};
+use std::alloc::Global;
+
+/// The stock has no more spares.
+const MOST_SPARES: usize = 32_768;
+
+/// The fault of a tie net.
+fn tie_fault(alloc: Global, net: &Name) -> BaseFault
+    ensures { BlamesTie net.now result }
+{
+    match net.copy(alloc) {
+        Ok(net) => BaseFault::TieNotConstant { net },
+        Err(_) => BaseFault::Memory,
+    }
+}
+
+/// Refuses a tie net that hasn't its value, that of `tie_high` first.
+fn check_ties(alloc: Global, net: &Netlist, desk: &DeskFile) -> Result<(), BaseFault>
+    ensures high { OnOk result (IsTieNet desk.now.prefixes (netlist net.now) desk.now.high true) }
+    ensures low { OnOk result (IsTieNet desk.now.prefixes (netlist net.now) desk.now.low false) }
+    ensures fault { IfErr result (BlamesTies desk.now (netlist net.now)) }
+{
+    if !is_tied(net, desk, true) {
+        return Err(tie_fault(alloc, desk.high()));
+    }
+    if !is_tied(net, desk, false) {
+        return Err(tie_fault(alloc, desk.low()));
+    }
+    Ok(())
+}
+
+/// Refuses more spares than may be.
+fn check_count(spares: &[Spare]) -> Result<(), BaseFault>
+    ensures few { OnOk result (length spares.now ≤ 32768) }
+    ensures fault { IfErr result (BlamesCount (length spares.now)) }
+{
+    let count = spares.len();
+    if count <= MOST_SPARES {
+        return Ok(());
+    }
+    Err(BaseFault::TooMuchStock { count })
+}
+
+/// Refuses a netlist in which a signal runs in a circle.
+fn check_loops(alloc: Global, net: &Netlist) -> Result<(), BaseFault>
+    ensures free { OnOk result (IsLoopFree (netlist net.now)) }
+    ensures fault { IfErr result (BlamesLoop (netlist net.now)) }
+{
+    match net.levels(alloc) {
+        Ok(_) => Ok(()),
+        Err(LoopFault::Loop { nets }) => Err(BaseFault::Loop { nets }),
+        Err(LoopFault::Memory) => Err(BaseFault::Memory),
+    }
+}
+
+/// What a gate computes.
+fn function_of(net: &Netlist, comp: CompId) -> Result<MasterFn, Memory>
+    requires { IsGateRow (slice_get net.now.comps comp.0) }
+    ensures { IfOk result (λ f. option_map (λ r. r.kind) (slice_get net.now.comps comp.0) ≡ Some (Gate f)) }
+{
+    match net.kind(comp) {
+        Kind::Gate(master) => Ok(master.copy()?),
+        Kind::Boxed(_) => unreachable!(),
+    }
+}
+
+/// What each spare computes.
+fn functions_of(alloc: Global, net: &Netlist, spares: &[Spare]) -> Result<Vec<MasterFn>, Memory>
+    requires { All (λ s. IsGateRow (slice_get net.now.comps s.comp)) spares.now }
+    ensures { IfOk result (λ fs. map (λ f. Some (Gate f)) fs.items ≡ map (λ s. option_map (λ r. r.kind) (slice_get net.now.comps s.comp)) spares.now) }
+{
+    let mut functions = Vec::with_capacity(alloc, spares.len())?;
+    for spare in spares {
+        functions.push(function_of(net, CompId(spare.comp))?)?;
+    }
+    Ok(functions)
+}
+
+/// Takes the stock out of the netlist of all components.
+///
+/// Refuses a tie net that isn't one, too much stock, and a loop in what is left, in this order.
+pub fn take_stock(alloc: Global, texts: &Texts, maker: NetlistMaker) -> Result<Stocked, BaseFault>
+    requires { IsJoined texts.now maker }
+    ensures stocked { IfOk result (IsStocked texts.now) }
+    ensures fault { IfErr result (BlamesStock texts.now) }
+{
+    let desk = texts.desk();
+    let full = maker.finish(alloc)?;
+    let _counts = full.counts();
+    check_ties(alloc, &full, desk)?;
+    let stock = find_stock(alloc, &full, desk)?;
+    check_count(&stock.spares)?;
+    let functions = functions_of(alloc, &full, &stock.spares)?;
+    let netlist = without_stock(alloc, full, desk, &stock)?;
+    check_loops(alloc, &netlist)?;
+    let Stock {
+        spares,
+        marks: _,
+        skipped,
+    } = stock;
+    Ok(Stocked {
+        netlist,
+        spares,
+        functions,
+        skipped,
+    })
+}
