@@ -1,18 +1,13 @@
 -- The first component of an unknown master, and the first master that differs, by names.
-use Rattle.std.proofs.Common.{◌≡◌, ℕ, Bool, true, false, List, [], ◌∷◌, map, Option, Some, option_map, refl, sym, ap, subst, ◌∙◌, cond, Result}
+use Rattle.std.proofs.Common.{◌≡◌, ℕ, Bool, true, false, List, [], ◌∷◌, map, Option, Some, option_map, refl, sym, ap, subst, ◌∙◌, cond}
 use Rattle.std.specs.List.{find}
 use Rattle.eco_def.specs.declared.design.Comp.{Comp}
-use Rattle.eco_def.specs.declared.design.Design.{Design}
-use Rattle.eco_def.specs.Named.{comp_names, names_of}
-use Rattle.eco_def.specs.View.{comp_in, design_in}
 use Rattle.eco_func.specs.Masters.{MasterTables}
 use Rattle.eco_lef.specs.declared.master.Master.{Master}
 use Rattle.eco_net.specs.Netlist.{Name}
 use Rattle.eco_full.specs.Stated.{named_comp, named_comps}
-use Rattle.eco_full.proofs.FindingPins.{map_twice}
-use Rattle.eco_masters.specs.declared.fault.MasterFault.{MasterFault}
 use Rattle.eco_masters.specs.Differing.{FirstDiffering}
-use Rattle.eco_masters.specs.Checks.{is_unknown, first_unknown, Checks}
+use Rattle.eco_masters.specs.Checks.{is_unknown, first_unknown}
 
 found_map : {A B : Type 0} (f : A → B) (p : B → Bool) (xs : List A) → find p (map f xs) ≡ option_map f (find (λ x. p (f x)) xs)
 found_map f p [] = refl
@@ -30,7 +25,3 @@ first_by_names text comps ms o e = found_map (named_comp text) (is_unknown ms) c
 -- the models that are used, by another form of them
 pub first_by_uses : (used uses : Name → Bool) (fs : List MasterTables) (ms : List Master) (o : Option (Master × Name)) → ((q : Name) → used q ≡ uses q) → FirstDiffering used fs ms o → FirstDiffering uses fs ms o
 first_by_uses used uses fs ms o same = subst (λ u. FirstDiffering u fs ms o) (λ i q. same q i)
-
--- the design's components by names
-pub answered : (text : List ℕ) (d : Design) (ms : List Master) (fs : List MasterTables) (r : Result (Unit {0}) MasterFault) → Checks (named_comps text d.comps) ms fs r → Checks (names_of (design_in text d)).comps ms fs r
-answered text d ms fs r = subst (λ cs. Checks cs ms fs r) (sym (map_twice comp_names (comp_in text) d.comps))

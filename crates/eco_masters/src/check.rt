@@ -1,7 +1,7 @@
 //! Whether masters fit a design and the functions file.
 
-ghost use Rattle.eco_def.specs.Named.{names_of};
-ghost use Rattle.eco_def.specs.View.{design_in};
+ghost use Rattle.std.specs.Prelude.{◌≡◌};
+ghost use Rattle.eco_full.specs.Stated.{named_comps};
 ghost use Rattle.eco_masters.specs.Checks.{Checks};
 
 use crate::differing_master::first_differing;
@@ -25,7 +25,7 @@ pub fn check_masters(
     library: &Library,
     functions: &Functions,
 ) -> Result<(), MasterFault>
-    ensures { Checks (names_of (design_in text.now design.now)).comps library.now functions.now result }
+    ensures { Checks (named_comps text.now design.now.comps) library.now functions.now result }
 {
     if let Some(comp) = first_unknown(text, design, library) {
         let comp = Name::of(alloc, bytes_at(text, comp.name))?;
