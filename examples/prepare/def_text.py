@@ -7,6 +7,10 @@ import re
 
 WORD = re.compile(rb'"[^"]*(?:(?<=\\)"[^"]*)*"|[^ \t\r\n]+')
 SECTIONS = (b"COMPONENTS", b"PINS", b"SPECIALNETS", b"NETS")
+PASSED = (
+    b"PROPERTYDEFINITIONS", b"VIAS", b"STYLES", b"NONDEFAULTRULES", b"REGIONS", b"PINPROPERTIES", b"BLOCKAGES",
+    b"SLOTS", b"FILLS", b"SCANCHAINS", b"GROUPS",
+)
 
 
 def words(text):
@@ -46,42 +50,66 @@ class Statement:
                 return self.parts[k + 2][1]
         return None
 
-    def joints_end(self):
-        """The place behind the last joint, or behind the name where there is none."""
-        place, name = self.parts[1]
-        end = place + len(name)
+    def joints(self):
+        """Of each joint of a net the component's word with its place, and the place behind its )"""
+        found = []
         k = 2
         while self.parts[k][1] == b"(":
-            while self.parts[k][1] != b")":
+            comp = self.parts[k + 1]
+            while self.parts[k][1] not in (b")", b";"):
                 k += 1
-            end = self.parts[k][0] + 1
+            found.append((comp, self.parts[k][0] + 1))
             k += 1
-        return end
+        return found
+
+    def joints_end(self):
+        """The place behind the last joint, or behind the name where there is none."""
+        joints = self.joints()
+        place, name = self.parts[1]
+        return joints[-1][1] if joints else place + len(name)
+
+
+def pass_to(stream, last, before=None):
+    """Passes over the words up to one, which stands behind another where that is given."""
+    previous = None
+    for _, word in stream:
+        if word == last and before in (None, previous):
+            return
+        previous = word
+
+
+def section_statements(section, stream):
+    for place, word in stream:
+        if word == b"END":
+            next(stream, None)
+            return
+        parts = [(place, word)]
+        for part in stream:
+            parts.append(part)
+            if part[1] == b";":
+                break
+        else:
+            return
+        yield Statement(section, parts)
 
 
 def statements(text):
     """The statements of the four sections, in the order of the text."""
-    section = None
-    parts = []
-    before = None
-    for place, word in words(text):
-        if section is None:
-            if word in SECTIONS and before != b"END":
-                section, parts = word, None
-        elif parts is None:
-            # The count word and its ; stand behind the heading.
-            if word == b";":
-                parts = []
-        elif parts:
-            parts.append((place, word))
-            if word == b";":
-                yield Statement(section, parts)
-                parts = []
-        elif word == b"-":
-            parts = [(place, word)]
-        elif word == section and before == b"END":
-            section = None
-        before = word
+    stream = words(text)
+    for _, word in stream:
+        if word in SECTIONS:
+            # The count is one word, whatever it is.
+            next(stream, None)
+            pass_to(stream, b";")
+            yield from section_statements(word, stream)
+        elif word in PASSED:
+            pass_to(stream, word, before=b"END")
+        elif word == b"BEGINEXT":
+            pass_to(stream, b"ENDEXT")
+        elif word == b"END":
+            return
+        else:
+            pass_to(stream, b";")
 
 
 def edited(text, edits):

@@ -33,12 +33,12 @@ def prefixes(spares, others):
 def renamed(text, spares, prefix):
     edits = []
     for statement in statements(text):
+        names = []
         if statement.section == b"COMPONENTS":
-            places = [statement.parts[1]] if statement.name() in spares else []
-        else:
-            parts = statement.parts
-            places = [parts[k + 1] for k in range(len(parts) - 1) if parts[k][1] == b"(" and parts[k + 1][1] in spares]
-        edits += [(place, place, prefix) for place, _ in places]
+            names = [statement.parts[1]]
+        elif statement.section in (b"NETS", b"SPECIALNETS"):
+            names = [comp for comp, _ in statement.joints()]
+        edits += [(place, place, prefix) for place, name in names if name in spares]
     return edited(text, edits)
 
 

@@ -9,9 +9,9 @@ use Rattle.std.proofs.lemmas.Slice.Zip.{length-zip}
 use Rattle.eco_net.specs.Netlist.{Name}
 use Rattle.eco_patch.specs.Orders.{PatchGate, Feed}
 use Rattle.eco_patch.specs.Realisation.{feed_net, feed_joints, on_pin}
-use Rattle.eco_base.specs.declared.new_joint.NewJoint as code
+use Rattle.eco_overlay.specs.declared.new_joint.NewJoint as code
 use Rattle.eco_base.specs.OneGates.{new_joint}
-use Rattle.eco_base.specs.PinMoves.{named_joint}
+use Rattle.eco_overlay.specs.PinMoves.{named_joint}
 
 -- ---- pairs of two lists
 

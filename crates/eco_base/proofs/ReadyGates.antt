@@ -25,7 +25,7 @@ use Rattle.eco_base.specs.OneSteps.{IsSpareGate, IsKnownOrder, patched_beside, l
 use Rattle.eco_base.specs.OneAnswers.{IsReady, IsRefused}
 use Rattle.eco_base.proofs.PatchPins.{patch}
 use Rattle.eco_base.proofs.GatePins.{parts_of_gate}
-use Rattle.eco_base.specs.PinMoves.{ArePinsApart}
+use Rattle.eco_overlay.specs.PinMoves.{ArePinsApart}
 use Rattle.eco_base.proofs.SameJoints.{distinct_new}
 use Rattle.eco_base.proofs.Applying.{supplied, one_spare_is, takes, one_gate_applies}
 

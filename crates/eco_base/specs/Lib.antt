@@ -6,9 +6,5 @@ pub mod OneLaws
 pub mod GateBases
 pub mod TiedDesigns
 pub mod OpenedGates
-pub mod Overlays
-pub mod Moving
-pub mod PinMoves
-pub mod NetChanges
 pub mod OneSteps
 pub mod OneAnswers

@@ -6,7 +6,7 @@ ghost use Rattle.eco_issued.specs.Issued.{IsOverlayOf};
 ghost use Rattle.eco_base.specs.GateBases.{BaseParts, base_netlist, said_design};
 ghost use Rattle.eco_base.specs.OneGates.{IsApplied};
 ghost use Rattle.eco_base.specs.OneAnswers.{IsReady, IsRefused, AppliesOne};
-ghost use Rattle.eco_base.specs.Overlays.{IsMadeFor};
+ghost use Rattle.eco_overlay.specs.Overlays.{IsMadeFor};
 
 use crate::embedded::is_embedded;
 use crate::gate_base::GateBase;
@@ -14,10 +14,10 @@ use crate::gate_joints::gate_joints;
 use crate::good_order::known_order;
 use crate::one_fault::OneFault;
 use crate::one_gate::OneGate;
-use crate::overlay::Overlay;
 use crate::patched::is_loop_free;
 use crate::spare::spare_master;
 use eco_func::{MasterFn, Memory};
+use eco_overlay::Overlay;
 use std::alloc::Global;
 
 /// The master of the order's spare, where the spare is one, the order is good and the gate is embedded.

@@ -5,12 +5,12 @@ ghost use Rattle.std.specs.List.{zip};
 ghost use Rattle.eco_patch.specs.Realisation.{feed_net as net_of_feed, feed_joints};
 ghost use Rattle.eco_base.specs.OneGates.{feed_of, gate_of, new_joint};
 ghost use Rattle.eco_base.specs.OneSteps.{lone_joints};
-ghost use Rattle.eco_base.specs.PinMoves.{named_joint};
+ghost use Rattle.eco_overlay.specs.PinMoves.{named_joint};
 
-use crate::new_joint::NewJoint;
 use crate::one_gate::OneGate;
 use eco_embed::Feed;
 use eco_func::{Memory, Name};
+use eco_overlay::NewJoint;
 use std::alloc::Global;
 
 /// The net of a feed: a tie net, or that of one of the gate's inputs.

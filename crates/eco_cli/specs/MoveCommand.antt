@@ -5,7 +5,7 @@ use Rattle.eco_def.specs.Named.{names_of}
 use Rattle.eco_def.specs.Limits.{reading_of}
 use Rattle.eco_issued.specs.Changes.{NewJoint}
 use Rattle.eco_issued.specs.Issued.{issued_text}
-use Rattle.eco_base.specs.Moving.{move_fault}
+use Rattle.eco_overlay.specs.Moving.{move_fault}
 use Rattle.eco_cli.specs.CommandLine.{Listed, value_of}
 use Rattle.eco_cli.specs.Designs.{HasDesign}
 use Rattle.eco_cli.specs.declared.command_option.OptionKind.TheVariants as kind

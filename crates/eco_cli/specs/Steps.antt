@@ -3,7 +3,7 @@ use Rattle.std.specs.Prelude.{◌≡◌, ℕ, ◌<◌, ◌≤◌, ◌⊎◌, Lis
 use Rattle.eco_text.specs.Causes.{Rose}
 use Rattle.eco_def.specs.Sections.{IsReadingOf}
 use Rattle.eco_issued.specs.Issued.{edited}
-use Rattle.eco_base.specs.Overlays.{IsMadeFor}
+use Rattle.eco_overlay.specs.Overlays.{IsMadeFor}
 use Rattle.eco_cli.specs.Job.{Input, source_opens, sink_opens}
 use Rattle.eco_cli.specs.Ending.{IsText, IsRead, AreRead, AsksAll, ready_after, StopsLong, StopsFailed, GivesFront, Puts}
 use Rattle.eco_cli.specs.Opens.{for_source, Told, without_first, with_asked}

@@ -12,8 +12,8 @@ use Rattle.eco_lef.specs.declared.fault.LefFault.{LefFault}
 use Rattle.eco_lef.specs.declared.fault.LefFault.TheVariants as lef
 use Rattle.eco_func.specs.declared.fault.FuncFault.{FuncFault}
 use Rattle.eco_func.specs.declared.fault.FuncFault.TheVariants as func
-use Rattle.eco_base.specs.declared.fault.MoveFault.{MoveFault}
-use Rattle.eco_base.specs.declared.fault.MoveFault.TheVariants as moving
+use Rattle.eco_overlay.specs.declared.fault.MoveFault.{MoveFault}
+use Rattle.eco_overlay.specs.declared.fault.MoveFault.TheVariants as moving
 use Rattle.eco_base.specs.declared.gate_fault.GateFault.{GateFault}
 use Rattle.eco_base.specs.declared.gate_fault.GateFault.TheVariants as gates
 use Rattle.eco_base.specs.declared.one_fault.OneFault.{OneFault}

@@ -5,4 +5,6 @@ pub mod StockRows
 pub mod StockFaults
 pub mod OpenBases
 pub mod StockTaken
+pub mod Counting
+pub mod Limits
 pub mod FirstFaults

@@ -12,14 +12,15 @@ use Rattle.eco_issued.specs.ReadingBack.{can_name}
 use Rattle.eco_issued.proofs.Allowed.{NoBlank}
 use Rattle.eco_issued.proofs.Names.{name_when}
 use Rattle.eco_issued.proofs.Issuing.{comps_can_name}
-use Rattle.eco_net.specs.Netlist.{Name, name_cmp, Netlist, Component, IsWhole}
+use Rattle.eco_net.specs.Netlist.{Name, name_cmp, Netlist, Component, IsNet, IsWhole}
 use Rattle.eco_net.specs.Drivers.{driven_at}
 use Rattle.eco_net.proofs.Basics.{Has, contains_from_has, has_from_contains, has_of_map, same_Some, cmp_itself}
 use Rattle.eco_full.proofs.Found.{comp_said}
 use Rattle.eco_full.proofs.Members.{of_filter}
-use Rattle.eco_patch.specs.Bases.{Base, bare, IsSpare, IsWithout, IsBase, HasBlank, is_stock}
+use Rattle.eco_patch.specs.Bases.{Base, bare, IsConstant, IsSpare, IsWithout, IsBase, HasBlank, is_stock}
 use Rattle.eco_patch.proofs.Feeding.{spare_idle}
 use Rattle.eco_patch.proofs.Start.{bool_cases, any_has, bare_other, in_full}
+use Rattle.eco_patch.proofs.Taking.{constant_net}
 use Rattle.eco_stock.specs.Laws.{TieNetsStayConstant, StockIsSpare}
 use Rattle.eco_stock.proofs.TieLaws.{ties_stay}
 use Rattle.eco_stock.proofs.Rest.{stock_spare as stock_is_spare}
@@ -93,18 +94,27 @@ ties_high low high = last (eq_by_cmp name_cmp high low) (eq_by_cmp name_cmp high
     last false true e = refl
     last false false e = e
 
+-- a tie net is one of the two
+tie_net : (N : Netlist) (low high : Name) → IsNet N low → IsNet N high → (n : Name) → Has (low ∷ high ∷ []) n → IsNet N n
+tie_net N low high l h n (inl e) = subst (IsNet N) e l
+tie_net N low high l h n (inr (inl e)) = subst (IsNet N) e h
+tie_net N low high l h n (inr (inr k)) = absurd k
+
 pub open_is_base : OpenIsBase
 open_is_base b open' =
     let t = b.texts in
     let low = t.desk.low in
     let high = t.desk.high in
+    let low_is : IsConstant (bare (frozen t)) low false = ties_stay t.desk.prefixes (listed_netlist t) (bare (frozen t)) low false (without_stock t) open'.low_is in
+    let high_is : IsConstant (bare (frozen t)) high true = ties_stay t.desk.prefixes (listed_netlist t) (bare (frozen t)) high true (without_stock t) open'.high_is in
     record {
       whole = record { names = open'.whole.names; rows = open'.whole.rows; pins = open'.whole.pins; tops = open'.whole.tops };
       loop_free = open'.loop_free;
-      low_is = ties_stay t.desk.prefixes (listed_netlist t) (bare (frozen t)) low false (without_stock t) open'.low_is;
-      high_is = ties_stay t.desk.prefixes (listed_netlist t) (bare (frozen t)) high true (without_stock t) open'.high_is;
+      low_is = low_is;
+      high_is = high_is;
       low_tie = contains-from_list nat_list_cmp_total (low ∷ high ∷ []) low ∙ ties_low low high;
       high_tie = contains-from_list nat_list_cmp_total (low ∷ high ∷ []) high ∙ ties_high low high;
+      ties = λ n e. tie_net (full_netlist t) low high (constant_net (bare (frozen t)) low false low_is) (constant_net (bare (frozen t)) high true high_is) n (any_has n (low ∷ high ∷ []) (sym (contains-from_list nat_list_cmp_total (low ∷ high ∷ []) n) ∙ e));
       stock = stock_spare t;
       no_blank = no_blank t open'.read;
     }

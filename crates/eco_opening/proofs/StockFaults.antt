@@ -1,5 +1,5 @@
 -- The faults of tie nets, stock and loops by what the code looks at are those of the texts.
-use Rattle.std.proofs.Common.{◌≡◌, ℕ, zero, suc, ◌<◌, ◌≤◌, true, false, List, [], ◌∷◌, length, Option, Some, None, is_none, slice_get, inl, inr, refl, sym, ap, ◌∙◌, subst, true≢false, arith}
+use Rattle.std.proofs.Common.{◌≡◌, ℕ, zero, suc, ◌<◌, ◌≤◌, true, false, List, [], ◌∷◌, length, Option, Some, None, slice_get, inl, inr, refl, sym, ap, ◌∙◌, subst, true≢false, arith}
 use Rattle.std.specs.List.{AllZip}
 use Rattle.std.specs.Option.{option_map}
 use Rattle.eco_net.specs.Netlist.{Name, Netlist}
@@ -65,11 +65,6 @@ as_many R [] [] h = refl
 as_many R [] (y ∷ ys) h = absurd h
 as_many R (x ∷ xs) [] h = absurd h
 as_many R (x ∷ xs) (y ∷ ys) h = ap suc (as_many R xs ys h.1)
-
-pub none_past : {A : Type 0} (xs : List A) (i : ℕ) → slice_get xs i ≡ None → i < length xs → ⊥
-none_past [] i e h = omega (arith, h)
-none_past (x ∷ xs) zero e h = true≢false (ap is_none (sym e))
-none_past (x ∷ xs) (suc i) e h = none_past xs i e (omega (arith, h))
 
 pub no_box : (o : Option CompRow) (pins : List BoxPin) → IsGateRow o → option_map (λ r. r.kind) o ≡ Some (Boxed pins) → ⊥
 no_box None pins h e = h

@@ -22,7 +22,7 @@ use Rattle.eco_stock.specs.declared.stock.Spare.{Spare}
 use Rattle.eco_stock.specs.Stock.{is_gate, is_idle, is_stock}
 use Rattle.eco_stock.specs.Found.{is_stock_row, is_skipped_row, place_in_row, place_of_spare}
 use Rattle.eco_opening.specs.Texts.{TextParts}
-use Rattle.eco_opening.specs.Bases.{listed_netlist, is_stock_at, is_in_stock, stock_names, is_skipped, IsSpareOf}
+use Rattle.eco_opening.specs.Stocks.{listed_netlist, is_stock_at, is_in_stock, stock_names, is_skipped, IsSpareOf}
 use Rattle.eco_opening.specs.Joined.{comp_names}
 use Rattle.eco_opening.specs.Stocked.{IsGateRow}
 
@@ -36,7 +36,7 @@ filter_mapped f P Q (x ∷ xs) e = at (filter_mapped f P Q xs (λ y h. e y (inr 
     at rest true = ap (λ ys. f x ∷ ys) rest
     at rest false = rest
 
-count_mapped : {A B : Type 0} (f : A → B) (P : B → Bool) (Q : A → Bool) (xs : List A) → ((x : A) → Has xs x → P (f x) ≡ Q x) → count_by Q xs ≡ count_by P (map f xs)
+pub count_mapped : {A B : Type 0} (f : A → B) (P : B → Bool) (Q : A → Bool) (xs : List A) → ((x : A) → Has xs x → P (f x) ≡ Q x) → count_by Q xs ≡ count_by P (map f xs)
 count_mapped f P Q [] e = refl
 count_mapped f P Q (x ∷ xs) e =
     sum_by-cons (λ y. cond (Q y) 1 0) x xs
@@ -44,7 +44,7 @@ count_mapped f P Q (x ∷ xs) e =
     ∙ ap (λ n. cond (P (f x)) 1 0 + n) (count_mapped f P Q xs (λ y h. e y (inr h)))
     ∙ sym (sum_by-cons (λ y. cond (P y) 1 0) (f x) (map f xs))
 
-map_twice : {A B C : Type 0} (g : B → C) (f : A → B) (xs : List A) → map g (map f xs) ≡ map (λ x. g (f x)) xs
+pub map_twice : {A B C : Type 0} (g : B → C) (f : A → B) (xs : List A) → map g (map f xs) ≡ map (λ x. g (f x)) xs
 map_twice g f [] = refl
 map_twice g f (x ∷ xs) = ap (λ ys. g (f x) ∷ ys) (map_twice g f xs)
 
@@ -71,7 +71,7 @@ module _ (t : TextParts) (L : Listing) (is : IsListing L) (same : netlist L ≡ 
   abbrev stock_row : CompRow → Bool
   stock_row = is_stock_row t.desk L.nets
 
-  found : (r : CompRow) → Has L.comps r → get (listed_netlist t).comps r.name ≡ Some (component L.nets r)
+  pub found : (r : CompRow) → Has L.comps r → get (listed_netlist t).comps r.name ≡ Some (component L.nets r)
   found r h = let i = at_has L.comps r h in ap (λ (N : Netlist). get N.comps r.name) (sym same) ∙ comp_is L is i.0 r i.1
 
   stock_at : (r : CompRow) → Has L.comps r → is_in_stock t r.name ≡ stock_row r

@@ -17,6 +17,7 @@ use Rattle.eco_stock.specs.Without.{spare_names, without_spares}
 use Rattle.eco_opening.specs.declared.stocked.Stocked.{Stocked}
 use Rattle.eco_opening.specs.Texts.{TextParts}
 use Rattle.eco_opening.specs.Joined.{comp_names}
+use Rattle.eco_opening.specs.Census.{IsCensusOf}
 use Rattle.eco_opening.specs.Bases.{listed_netlist, stock_names, frozen}
 use Rattle.eco_opening.specs.Opened.{AreTied}
 use Rattle.eco_opening.specs.Stocked.{IsGateRow, IsStocked}
@@ -54,7 +55,7 @@ module _ (t : TextParts) (L : Listing) (is : IsListing L) (same : netlist L ≡ 
       is_without ∙ (λ i. without_spares (same i) (e i) (stock i))
 
   module _ (s : Stocked) (whole : IsWhole (netlist L)) (few : length s.spares.items ≤ 32768) (numbers : AreNumbered L s.spares.items)
-      (functions : map (λ f. Some (Gate f)) s.functions.items ≡ map (λ (x : Spare). option_map (λ r. r.kind) (slice_get L.comps x.comp)) s.spares.items) (free : IsLoopFree (netlist s.netlist)) where
+      (functions : map (λ f. Some (Gate f)) s.functions.items ≡ map (λ (x : Spare). option_map (λ r. r.kind) (slice_get L.comps x.comp)) s.spares.items) (free : IsLoopFree (netlist s.netlist)) (counted : IsCensusOf t s.census) where
     stocked : IsTieNet t.desk.prefixes (netlist L) t.desk.high true → IsTieNet t.desk.prefixes (netlist L) t.desk.low false → map place_of_spare s.spares.items ≡ map place_in_row (stock_rows t.desk L)
         → s.skipped ≡ count_by (is_skipped_row t.desk L.nets) L.comps → netlist s.netlist ≡ without_spares (netlist L) t.desk (spare_names s.spares.items) → IsStocked t s
     stocked high low rows skipped is_without =
@@ -67,6 +68,7 @@ module _ (t : TextParts) (L : Listing) (is : IsListing L) (same : netlist L ≡ 
           spares = spares_of t L is same names (stock_rows t.desk L) s.spares.items s.functions.items (λ r h. h) rows numbers functions;
           few = few;
           skipped = skipped ∙ skipped_is t L is same names;
+          counted = counted;
           same = base;
           loop_free = subst IsLoopFree base free;
         }

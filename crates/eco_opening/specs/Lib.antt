@@ -2,7 +2,10 @@ pub mod Digests
 pub mod Texts
 pub mod TextFaults
 pub mod Joined
+pub mod Stocks
+pub mod Census
 pub mod Bases
 pub mod Stocked
 pub mod Opened
+pub mod Limits
 pub mod Laws

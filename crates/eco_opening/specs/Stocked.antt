@@ -14,6 +14,7 @@ use Rattle.eco_opening.specs.declared.fault.BaseFault.TheVariants.{TieNotConstan
 use Rattle.eco_opening.specs.declared.stocked.Stocked.{Stocked}
 use Rattle.eco_opening.specs.Texts.{TextParts}
 use Rattle.eco_opening.specs.Joined.{comp_names}
+use Rattle.eco_opening.specs.Census.{IsCensusOf}
 use Rattle.eco_opening.specs.Bases.{listed_netlist, IsTied, IsSpareOf, is_skipped, stock_names, frozen}
 
 -- this tie net hasn't its value, or there is want of memory
@@ -52,5 +53,6 @@ pub record IsStocked (t : TextParts) (s : Stocked) : Type 0 where
   pub spares : AllZip (IsSpareOf t) s.spares.items s.functions.items
   pub few : length s.spares.items ≤ 32768
   pub skipped : s.skipped ≡ count_by (is_skipped t) (comp_names t)
+  pub counted : IsCensusOf t s.census
   pub same : netlist s.netlist ≡ bare (frozen t)
   pub loop_free : IsLoopFree (bare (frozen t))

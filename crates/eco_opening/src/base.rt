@@ -1,5 +1,6 @@
 //! An opened base: its texts, its netlist without the stock, and the stock.
 
+use crate::census::Census;
 use crate::texts::Texts;
 use eco_def::Design;
 use eco_func::{MasterFn, Name};
@@ -15,6 +16,7 @@ pub struct Base {
     stock: Vec<Spare>,
     functions: Vec<MasterFn>,
     skipped: u32,
+    census: Census,
     digest: [u8; 32],
 }
 
@@ -23,14 +25,16 @@ impl Model for Base {
 
     ghost Value = { BaseParts };
 
-    ghost view = { λ b. record { texts = b.texts; listing = b.netlist; stock = b.stock.items; functions = b.functions.items; skipped = b.skipped; digest = b.digest } };
+    ghost view = { λ b. record { texts = b.texts; listing = b.netlist; stock = b.stock.items; functions = b.functions.items; skipped = b.skipped; census = b.census; digest = b.digest } };
 
-    ghost invariant = { λ b. IsOpen (record { texts = b.texts; listing = b.netlist; stock = b.stock.items; functions = b.functions.items; skipped = b.skipped; digest = b.digest }) };
+    ghost invariant = { λ b. IsOpen (record { texts = b.texts; listing = b.netlist; stock = b.stock.items; functions = b.functions.items; skipped = b.skipped; census = b.census; digest = b.digest }) };
 }
 
 impl Base {
-    ghost use Rattle.std.specs.Prelude.{◌≡◌};
+    ghost use Rattle.std.specs.Prelude.{◌≡◌, ◌<◌, Some, length, slice_get};
     ghost use Rattle.eco_opening.specs.Bases.{BaseParts, IsOpen};
+    ghost use Rattle.eco_opening.specs.Census.{IsCensusOf};
+    ghost use Rattle.eco_opening.specs.Limits.{KeepsLimits};
     ghost use Rattle.eco_stock.specs.Ties.{tie_name};
 
     /// The base of these parts, which belong together.
@@ -40,10 +44,11 @@ impl Base {
         stock: Vec<Spare>,
         functions: Vec<MasterFn>,
         skipped: u32,
+        census: Census,
         digest: [u8; 32],
     ) -> Base
-        requires { IsOpen (record { texts = texts; listing = netlist; stock = stock.items; functions = functions.items; skipped = skipped; digest = digest }) }
-        ensures { result ≡ record { texts = texts; listing = netlist; stock = stock.items; functions = functions.items; skipped = skipped; digest = digest } }
+        requires { IsOpen (record { texts = texts; listing = netlist; stock = stock.items; functions = functions.items; skipped = skipped; census = census; digest = digest }) }
+        ensures { result ≡ record { texts = texts; listing = netlist; stock = stock.items; functions = functions.items; skipped = skipped; census = census; digest = digest } }
     {
         Base {
             texts,
@@ -51,6 +56,7 @@ impl Base {
             stock,
             functions,
             skipped,
+            census,
             digest,
         }
     }
@@ -71,11 +77,14 @@ impl Base {
         self.texts.design()
     }
 
-    /// The netlist without the stock, whose names stay reserved. It is loop-free.
+    /// The netlist without the stock, whose names stay reserved. It is loop-free, and has at most 2,000,000 nets, 1,000,000
+    /// components and 4,000,000 pins of components on a net. No component's name has a blank.
     pub fn netlist(&self) -> &Netlist
         ensures value { result.now ≡ self.now.listing }
         ensures open { IsOpen self.now }
+        ensures limits { KeepsLimits self.now.listing }
     {
+        let _counts = self.netlist.counts();
         &self.netlist
     }
 
@@ -87,12 +96,22 @@ impl Base {
         &self.stock
     }
 
-    /// What each spare of the stock computes, in their order.
-    pub fn spare_fns(&self) -> &[MasterFn]
-        ensures value { result.now ≡ self.now.functions }
+    /// What a spare of the stock computes, by its number in the stock.
+    pub fn spare_fn(&self, spare: u32) -> &MasterFn
+        requires { spare < length self.now.stock }
+        ensures value { slice_get self.now.functions spare ≡ Some result.now }
         ensures open { IsOpen self.now }
     {
-        &self.functions
+        &self.functions[spare as usize]
+    }
+
+    /// The text and its design, without the rest.
+    pub fn into_text_and_design(self) -> (Vec<u8>, Design)
+        ensures text { result.0.items ≡ self.texts.text }
+        ensures design { result.1 ≡ self.texts.design }
+        ensures open { IsOpen self }
+    {
+        self.texts.into_text_and_design()
     }
 
     /// How many components are spare-named and no stock.
@@ -101,6 +120,14 @@ impl Base {
         ensures open { IsOpen self.now }
     {
         self.skipped
+    }
+
+    /// How much the base has.
+    pub fn census(&self) -> Census
+        ensures census { IsCensusOf self.now.texts result }
+        ensures open { IsOpen self.now }
+    {
+        self.census
     }
 
     /// The net that is tied to a value.

@@ -2,6 +2,7 @@
 #![tactic(auto)]
 
 mod base;
+mod census;
 mod digest;
 mod fault;
 mod free_stock;
@@ -14,7 +15,11 @@ mod stocking;
 mod texts;
 
 pub use crate::base::Base;
+pub use crate::census::Census;
 pub use crate::fault::BaseFault;
 pub use crate::free_stock::FreeStock;
 pub use crate::laws::open_is_base;
 pub use crate::opening::open_base;
+
+#[cfg(test)]
+mod tests;

@@ -36,6 +36,7 @@ pub fn open_base(
         stocked.spares,
         stocked.functions,
         stocked.skipped,
+        stocked.census,
         digest,
     ))
 }

@@ -1,15 +1,17 @@
 //! A base's netlist without its stock, and the stock.
 
+use crate::census::Census;
 use eco_func::MasterFn;
 use eco_net::Netlist;
 use eco_stock::Spare;
 
-/// The netlist without the stock, each spare of the stock, what it computes, and how many spare-named components are no
-/// stock.
+/// The netlist without the stock, each spare of the stock, what it computes, how many spare-named components are no stock,
+/// and how much there is in all.
 #[derive(Drop)]
 pub struct Stocked {
     pub netlist: Netlist,
     pub spares: Vec<Spare>,
     pub functions: Vec<MasterFn>,
     pub skipped: u32,
+    pub census: Census,
 }

@@ -11,6 +11,7 @@ ghost use Rattle.eco_opening.specs.Joined.{IsJoined};
 ghost use Rattle.eco_opening.specs.Opened.{BlamesStock};
 ghost use Rattle.eco_opening.specs.Stocked.{BlamesTie, BlamesTies, BlamesCount, BlamesLoop, IsGateRow, IsStocked};
 
+use crate::census::census_of;
 use crate::fault::BaseFault;
 use crate::stocked::Stocked;
 use crate::texts::Texts;
@@ -110,6 +111,7 @@ pub fn take_stock(alloc: Global, texts: &Texts, maker: NetlistMaker) -> Result<S
     let stock = find_stock(alloc, &full, desk)?;
     check_count(&stock.spares)?;
     let functions = functions_of(alloc, &full, &stock.spares)?;
+    let census = census_of(&full, &stock);
     let netlist = without_stock(alloc, full, desk, &stock)?;
     check_loops(alloc, &netlist)?;
     let Stock {
@@ -122,5 +124,6 @@ pub fn take_stock(alloc: Global, texts: &Texts, maker: NetlistMaker) -> Result<S
         spares,
         functions,
         skipped,
+        census,
     })
 }

@@ -86,4 +86,13 @@ impl Texts {
     {
         &self.desk
     }
+
+    /// The DEF text and its design, without the rest.
+    pub fn into_text_and_design(self) -> (Vec<u8>, Design)
+        ensures text { result.0.items ≡ self.text }
+        ensures design { result.1 ≡ self.design }
+        ensures read { AreRead self }
+    {
+        (self.text, self.design)
+    }
 }

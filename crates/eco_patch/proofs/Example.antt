@@ -31,6 +31,7 @@ use Rattle.eco_patch.specs.Live.{Commit, AreLive, IsGoodName}
 use Rattle.eco_patch.specs.Patches.{IsPatch}
 use Rattle.eco_patch.proofs.Listed.{lists_with, bare_lists, bare_made, joints_made, gates_made, parts_of, patch_part, not_computed_by, two_deep, reads_of}
 use Rattle.eco_patch.proofs.Spares.{Pair}
+use Rattle.eco_patch.proofs.Start.{any_has}
 use Rattle.eco_patch.proofs.Patches.{same_valuations}
 
 abbrev nand_table : List Bool
@@ -243,6 +244,11 @@ is_tie n (inl e) = contains-from_list nat_list_cmp_total lists.ties n ∙ subst 
 is_tie n (inr (inl e)) = contains-from_list nat_list_cmp_total lists.ties n ∙ subst (λ z. list_any (eq_by_cmp name_cmp z) lists.ties ≡ true) e refl
 is_tie n (inr (inr h)) = absurd h
 
+tie_net : (n : Name) → Has lists.ties n → IsNet (made lists) n
+tie_net n (inl e) = subst (IsNet (made lists)) e (Some true, net_made lists (codes "VDD"))
+tie_net n (inr (inl e)) = subst (IsNet (made lists)) e (Some false, net_made lists (codes "VSS"))
+tie_net n (inr (inr h)) = absurd h
+
 no_blank : (c : Name) → Has (codes "u1" ∷ codes "u2" ∷ codes "SP_1" ∷ []) c → Has c 32 → ⊥
 no_blank c (inl e) h = no (subst (λ z. Has z 32) (sym e) h)
   where
@@ -278,6 +284,7 @@ is_base = record {
   high_is = inl (net_made lists (codes "VDD"));
   low_tie = is_tie (codes "VSS") (inr (inl refl));
   high_tie = is_tie (codes "VDD") (inl refl);
+  ties = λ n t. tie_net n (any_has n lists.ties (sym (contains-from_list nat_list_cmp_total lists.ties n) ∙ t));
   stock = λ s c. stock_is s (has_from_contains base.stock s c);
   no_blank = λ c x e b. no_blank c (has_found lists_comps c x (sym (get-from_entries nat_list_cmp_total lists_comps c) ∙ e)) (has_from_contains c 32 b);
 }

@@ -15,6 +15,7 @@ pub mod Taking
 pub mod Lighter
 pub mod Beside
 pub mod LoneStock
+pub mod OfStock
 pub mod Alone
 pub mod Relabel
 pub mod Fold

@@ -1,5 +1,5 @@
 -- One spare as the stock of a supplied netlist
-use Rattle.std.proofs.Common.{◌≡◌, ◌≢◌, [], ◌∷◌, Option, Some, refl, sym, ap, ◌∙◌, subst, inl, inr, ⊎_elim}
+use Rattle.std.proofs.Common.{◌≡◌, ◌≢◌, [], ◌∷◌, true, false, Option, Some, refl, sym, ap, ◌∙◌, subst, inl, inr, ⊎_elim}
 use Rattle.std.specs.List.{Contains, IsDistinct}
 use Rattle.std.specs.FinMap.{get}
 use Rattle.eco_text.specs.declared.geometry.Point.{Point}
@@ -49,6 +49,10 @@ module _ (full : Netlist) (low high spare : Name) (x : Component) (supplied : Is
     high_is = inl supplied.high_is;
     low_tie = (supplied.ties low).1 (inl refl);
     high_tie = (supplied.ties high).1 (inr refl);
+    ties = λ n t. ⊎_elim
+        (λ s. (Some false, ap (get full.nets) s ∙ supplied.low_is))
+        (λ s. (Some true, ap (get full.nets) s ∙ supplied.high_is))
+        ((supplied.ties n).0 t);
     stock = λ s c. (x, ap (get full.comps) (sym (one_of spare s c)) ∙ found, is);
     no_blank = supplied.no_blank;
   }

@@ -95,7 +95,7 @@ input_is_pin x p = go x.kind
     go (Gate ins outs) h = found_input ins _ p h
     go (Boxed pins) h = absurd h
 
-constant_net : (N : Netlist) (n : Name) (b : Bool) → IsConstant N n b → IsNet N n
+pub constant_net : (N : Netlist) (n : Name) (b : Bool) → IsConstant N n b → IsNet N n
 constant_net N n b (inl e) = (Some b, e)
 constant_net N n b (inr c) = (None, c.unsupplied)
 

@@ -4,7 +4,7 @@ use Rattle.std.specs.List.{Contains, list_any}
 use Rattle.std.specs.Ordering.{eq_by_cmp}
 use Rattle.std.specs.FinMap.{get, retain_keys}
 use Rattle.std.specs.FinSet.{contains, from_list}
-use Rattle.eco_net.specs.Netlist.{Name, name_cmp, Netlist, Component, Gate, Computes, role_of, IsWhole}
+use Rattle.eco_net.specs.Netlist.{Name, name_cmp, Netlist, Component, Gate, Computes, role_of, IsNet, IsWhole}
 use Rattle.eco_net.specs.Drivers.{driven_at, Computed}
 use Rattle.eco_net.specs.Walks.{IsLoopFree}
 
@@ -48,7 +48,8 @@ abbrev pub HasBlank : Name → Type 0
 HasBlank n = Contains n 32
 
 -- Each joint is one of a known pin and a known net, no signal runs in a circle through gates other than spares, the tie nets
--- have their values by what is no spare, the stock are gates that drive nothing, and no component's name has a blank.
+-- are nets and have their values by what is no spare, the stock are gates that drive nothing, and no component's name has a
+-- blank.
 pub record IsBase (base : Base) : Type 0 where
   pub whole : IsWhole base.full
   pub loop_free : IsLoopFree (bare base)
@@ -56,5 +57,6 @@ pub record IsBase (base : Base) : Type 0 where
   pub high_is : IsConstant (bare base) base.high true
   pub low_tie : IsTie base.full base.low
   pub high_tie : IsTie base.full base.high
+  pub ties : (n : Name) → IsTie base.full n → IsNet base.full n
   pub stock : (s : Name) → Contains base.stock s → (x : Component) × (get base.full.comps s ≡ Some x) × IsSpare x
   pub no_blank : (c : Name) (x : Component) → get base.full.comps c ≡ Some x → HasBlank c → ⊥

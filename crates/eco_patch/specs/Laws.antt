@@ -20,6 +20,7 @@ use Rattle.eco_patch.specs.Mappings.{spares_of}
 use Rattle.eco_patch.specs.Patches.{IsPatch}
 use Rattle.eco_patch.specs.Meaning.{SameMeaning}
 use Rattle.eco_patch.specs.Lone.{lone_base, lone_order, IsSupplied, IsLone}
+use Rattle.eco_patch.specs.LoneOfStock.{IsLoneOf}
 use Rattle.eco_patch.specs.Live.{Commit, AreLive, live_joints, live_nets, abstract, concrete}
 
 -- ---- pins put on nets
@@ -54,6 +55,12 @@ abbrev pub LoneIsPatch : Type 0
 LoneIsPatch =
     (full : Netlist) (low high label : Name) (place : Name → Option Point) (gate : PatchGate) (move : Move) (p : Placement) → IsLone full low high label place gate move p
     → IsPatch (lone_base full low high p.spare) label place (lone_order gate move) (p ∷ [])
+
+-- so it is on a spare of any base's stock
+abbrev pub LoneOfStockIsPatch : Type 0
+LoneOfStockIsPatch =
+    (base : Base) (label : Name) (place : Name → Option Point) (gate : PatchGate) (move : Move) (p : Placement) → IsLoneOf base label place gate move p
+    → IsPatch base label place (lone_order gate move) (p ∷ [])
 
 -- a map from nets to bits is a valuation of the netlist with the gates exactly where it is one of the netlist with the spares
 abbrev pub SameValuations : Type 0

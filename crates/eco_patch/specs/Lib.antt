@@ -10,4 +10,5 @@ pub mod Patches
 pub mod Meaning
 pub mod Live
 pub mod Lone
+pub mod LoneOfStock
 pub mod Laws

@@ -1,4 +1,4 @@
-ghost use Rattle.eco_patch.specs.Laws.{BaseTakesJoints, BaseTakesLive, ComponentsStay, FirstCounts, FreeStockRests, GatesCompute, JointsJoin, LiveJoints, LiveMeansSame, LiveNetsAreNew, LoneIsBeside, LoneIsPatch, MovesArrive, NetsJoin, NothingLive, OtherNetsStay, OtherPinsStay, OthersRemain, PatchMeansSame, SameBesideStock, SameValuations, SparesCompute, StockIsBeside, WithIsLoopFree, WithoutComputesSame, WithoutIsLoopFree};
+ghost use Rattle.eco_patch.specs.Laws.{BaseTakesJoints, BaseTakesLive, ComponentsStay, FirstCounts, FreeStockRests, GatesCompute, JointsJoin, LiveJoints, LiveMeansSame, LiveNetsAreNew, LoneIsBeside, LoneIsPatch, LoneOfStockIsPatch, MovesArrive, NetsJoin, NothingLive, OtherNetsStay, OtherPinsStay, OthersRemain, PatchMeansSame, SameBesideStock, SameValuations, SparesCompute, StockIsBeside, WithIsLoopFree, WithoutComputesSame, WithoutIsLoopFree};
 
 /// A law: joints put their pins on their nets, of two joints of one pin the first, and leave all other pins, each component's
 /// kind and place, and all nets but the new ones as they were.
@@ -39,9 +39,10 @@ pub fn outputs_are_computed()
 {}
 
 /// A law: one gate on a new net, which one input pin goes to, with its embedding in one spare, is an order that the laws above
-/// speak of.
+/// speak of, also on a spare of any base's stock.
 pub fn lone_is_patch()
-    ensures { LoneIsPatch }
+    ensures lone { LoneIsPatch }
+    ensures stock { LoneOfStockIsPatch }
 {}
 
 /// A law: the joints that realise an order are ones that the base can take: each is of another pin, its component has the pin,

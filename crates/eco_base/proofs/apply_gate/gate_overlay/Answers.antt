@@ -10,7 +10,7 @@ use Rattle.eco_base.specs.declared.one_gate.OneGate.{OneGate}
 use Rattle.eco_base.specs.GateBases.{BaseParts, said_design, IsGateBase}
 use Rattle.eco_base.specs.OneGates.{new_joint, IsApplied}
 use Rattle.eco_base.specs.OneSteps.{lone_joints}
-use Rattle.eco_base.specs.PinMoves.{named_joint, ArePinsApart}
+use Rattle.eco_overlay.specs.PinMoves.{named_joint, ArePinsApart}
 use Rattle.eco_base.proofs.ReadyGates.{joints_apart, is_applied, for_ok}
 use Rattle.eco_base.proofs.apply_gate.gate_overlay.Goals as goal
 

@@ -6,7 +6,7 @@ use Rattle.eco_net.specs.Netlist.{Name}
 use Rattle.eco_patch.specs.Orders.{Feed}
 use Rattle.eco_patch.specs.Realisation.{feed_joints}
 use Rattle.eco_base.specs.OneGates.{feed_of, gate_of, new_joint}
-use Rattle.eco_base.specs.PinMoves.{named_joint}
+use Rattle.eco_overlay.specs.PinMoves.{named_joint}
 use Rattle.eco_base.proofs.FedPins.{zip_more, zip_whole, fed_more}
 use Rattle.eco_base.proofs.gate_joints.add_all_fed.Goals as goal
 

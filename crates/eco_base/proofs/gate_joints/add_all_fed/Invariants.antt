@@ -2,7 +2,7 @@ use Rattle.std.proofs.Common.{◌≡◌, ◌++◌, map, take, length}
 use Rattle.std.specs.List.{zip}
 use Rattle.eco_patch.specs.Realisation.{feed_joints}
 use Rattle.eco_base.specs.OneGates.{feed_of, gate_of, new_joint}
-use Rattle.eco_base.specs.PinMoves.{named_joint}
+use Rattle.eco_overlay.specs.PinMoves.{named_joint}
 use Rattle.eco_base.proofs.gate_joints.add_all_fed.Given as goal
 
 -- the pins so far

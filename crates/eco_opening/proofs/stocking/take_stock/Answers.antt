@@ -8,6 +8,7 @@ use Rattle.eco_stock.specs.declared.stock.Spare.{Spare}
 use Rattle.eco_opening.specs.Bases.{stock_names}
 use Rattle.eco_opening.specs.Stocked.{IsGateRow, BlamesTies, BlamesCount}
 use Rattle.eco_opening.proofs.StockFaults.{ties_first, count_first, loop_first}
+use Rattle.eco_opening.proofs.Counting.{census_is}
 use Rattle.eco_opening.proofs.StockTaken.{tie_is_net, all_gates, count_is, base_is, stocked_is, both_tied}
 use Rattle.eco_opening.proofs.stocking.take_stock.Goals as goal
 
@@ -70,6 +71,7 @@ returns-clause-stocked c =
     let stock = c.in_ok-stock.stock in
     let few = subst (λ (xs : List Spare). length xs ≤ 32768) c.deref.ensures.value c.in_ok-check_count.ensures.few in
     let functions = c.in_ok-functions.ensures ∙ ap (map (λ (x : Spare). option_map (λ r. r.kind) (slice_get full.comps x.comp))) c.deref-2.ensures.value in
-    stocked_is t full c.counts-counts.ensures.listing same names (record { netlist = c.in_ok-netlist.netlist; spares = stock.spares; functions = c.in_ok-functions.functions; skipped = stock.skipped })
+    stocked_is t full c.counts-counts.ensures.listing same names (record { netlist = c.in_ok-netlist.netlist; spares = stock.spares; functions = c.in_ok-functions.functions; skipped = stock.skipped; census = c.census_of-census.result })
     c.in_ok-full.ensures.whole few c.in_ok-stock.ensures.numbers functions c.in_ok-check_loops.ensures.free
+    (census_is t full c.counts-counts.ensures.listing same names c.desk-desk.result.now c.desk-desk.ensures stock c.census_of-census.result c.in_ok-stock.ensures.rows c.in_ok-stock.ensures.skipped c.census_of-census.ensures)
     c.desk-desk.result.now c.desk-desk.ensures c.in_ok-check_ties.ensures.high c.in_ok-check_ties.ensures.low c.in_ok-stock.ensures.rows c.in_ok-stock.ensures.skipped c.in_ok-netlist.ensures.base

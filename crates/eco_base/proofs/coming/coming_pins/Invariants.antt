@@ -1,7 +1,0 @@
-use Rattle.std.proofs.Common.{◌≡◌, ℕ, List, take}
-use Rattle.eco_base.specs.NetChanges.{coming, pins_on}
-use Rattle.eco_base.proofs.coming.coming_pins.Given as goal
-
--- the moves so far, net by net
-abbrev pub invariant-loop-moved : goal.invariant-loop-moved
-invariant-loop-moved l = (net : List ℕ) → pins_on l.added net ≡ coming (take l.moved-index l.moves) net

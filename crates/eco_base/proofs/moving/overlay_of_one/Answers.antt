@@ -1,8 +1,0 @@
-use Rattle.std.proofs.Common.{ap, sym, ◌∙◌, subst, map, ◌++◌, ◌∷◌, []}
-use Rattle.eco_base.specs.PinMoves.{new_joint, ArePinsApart}
-use Rattle.eco_base.proofs.Changing.{one_apart}
-use Rattle.eco_base.proofs.moving.overlay_of_one.Goals as goal
-
-pub overlay_of-requires-clause-apart : goal.overlay_of-requires-clause-apart
-overlay_of-requires-clause-apart c =
-    subst (λ ms. ArePinsApart (map new_joint ms)) (sym (c.in_ok-push.ensures.items ∙ ap (λ ms. ms ++ c.args.pin ∷ []) c.new-moves.ensures.items)) (one_apart c.args.pin)

@@ -1,5 +1,0 @@
-use Rattle.std.proofs.Common.{append-nil}
-use Rattle.eco_base.proofs.overlay.write_both.Goals as goal
-
-pub returns : goal.returns
-returns g c = rw append-nil at c.write_pieces.ensures

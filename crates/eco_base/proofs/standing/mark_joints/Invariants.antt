@@ -1,7 +1,0 @@
-use Rattle.std.proofs.Common.{◌≡◌, map, take}
-use Rattle.eco_base.specs.PinMoves.{marked_by}
-use Rattle.eco_base.proofs.standing.mark_joints.Given as goal
-
--- the moves as the joints so far have marked them
-abbrev pub invariant-loop-joint : goal.invariant-loop-joint
-invariant-loop-joint l = l.moves ≡ map (marked_by l.text l.net (take l.joint-index l.joints)) l.initial.moves

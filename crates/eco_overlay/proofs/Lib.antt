@@ -1,0 +1,13 @@
+pub mod Stretches
+pub mod Editing
+pub mod Sorting
+pub mod Orders
+pub mod Places
+pub mod Staying
+pub mod Marking
+pub mod NetPins
+pub mod Writing
+pub mod Lean
+pub mod Readings
+pub mod IssuedTexts
+pub mod Changing

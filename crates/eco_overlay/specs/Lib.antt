@@ -1,0 +1,4 @@
+pub mod Overlays
+pub mod Moving
+pub mod PinMoves
+pub mod NetChanges
