@@ -18,6 +18,3 @@ pub use crate::apply_gate::apply_one;
 pub use crate::laws::{one_gate_applies, same_joints};
 pub use crate::one_fault::OneFault;
 pub use crate::one_gate::OneGate;
-
-#[cfg(test)]
-mod tests;
