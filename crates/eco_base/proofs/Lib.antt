@@ -1,16 +1,11 @@
-pub mod NetsOnce
 pub mod NewNames
-pub mod Macros
 pub mod SameJoints
 pub mod Applying
-pub mod TiedTests
-pub mod Opening
 pub mod SpareTables
-pub mod GatePins
+pub mod CompPins
 pub mod Spares
 pub mod MovedPins
 pub mod FedPins
 pub mod PatchPins
 pub mod MovedNetlists
-pub mod Counting
 pub mod ReadyGates

@@ -1,5 +1,6 @@
 //! What the clauses don't say: the printed texts, and that each command can succeed.
 
+use crate::tests::inputs::{DEF, DESK, FUNCTIONS, LEF};
 use crate::{MemoryHost, run};
 use eco_text::{ByteSink, ByteSource};
 use std::alloc::Global;
@@ -9,51 +10,7 @@ mod applying;
 mod checking;
 mod inputs;
 mod moving;
-
-/// The netlist of the small design, without top pins and supplies.
-const TEXT: &str = "VERSION 5.8 ;
-DIVIDERCHAR \"/\" ;
-BUSBITCHARS \"[]\" ;
-DESIGN top ;
-UNITS DISTANCE MICRONS 1000 ;
-DIEAREA ( 0 0 ) ( 20000 20000 ) ;
-COMPONENTS 7 ;
-- u1 NAND2 + PLACED ( 1000 1000 ) N ;
-- u2 INV + PLACED ( 3000 1000 ) N ;
-- r1 DFF + PLACED ( 5000 1000 ) N ;
-- SP_1 NAND2 + FIXED ( 2000 2000 ) N ;
-- SP_2 NAND2 + FIXED ( 8000 2000 ) N ;
-- SP_3 AOI21 + FIXED ( 6000 2000 ) N ;
-- SP_4 NAND2 + UNPLACED ;
-END COMPONENTS
-NETS 6 ;
-- a ( PIN a ) ( u1 A ) ;
-- b ( PIN b ) ( u1 B ) ;
-- ck ( PIN ck ) ( r1 CK ) ;
-- n1 ( u1 Y ) ( u2 A ) + ROUTED M1 ( 1000 1000 ) ( 3000 * ) ;
-- n2 ( u2 Y ) ( r1 D ) ;
-- q ( r1 Q ) ( PIN q ) ;
-END NETS
-END DESIGN
-";
-
-const PINS: &str = "PINS 4 ;
-- a + NET a + DIRECTION INPUT + USE SIGNAL ;
-- b + NET b + DIRECTION INPUT + USE SIGNAL ;
-- ck + NET ck + DIRECTION INPUT + USE CLOCK ;
-- q + NET q + DIRECTION OUTPUT + USE SIGNAL ;
-END PINS
-SPECIALNETS 2 ;
-- VDD ( * VDD ) + USE POWER ;
-- VSS ( * VSS ) ( SP_1 A ) ( SP_1 B ) ( SP_2 A ) ( SP_2 B ) ( SP_3 A ) ( SP_3 B ) ( SP_3 C ) + USE GROUND ;
-END SPECIALNETS
-";
-
-/// The small design, with its top pins and supplies.
-fn whole_design(alloc: Global) -> Result<String, Fail> {
-    let nets = "NETS 6 ;";
-    Ok(TEXT.replace(alloc, nets, &format!(in alloc; "{PINS}{nets}")?)?)
-}
+mod reading;
 
 /// What a command answered and did.
 #[derive(Drop)]
@@ -131,4 +88,14 @@ fn run_line(
         printed,
         outputs,
     })
+}
+
+/// Runs a line at a host that has the texts of the small base, in which this stands in the place of that.
+fn run_base(alloc: Global, line: &str, stands: &str, instead: &str) -> Result<Answer, Fail> {
+    let lef = LEF.replace(alloc, stands, instead)?;
+    let def = DEF.replace(alloc, stands, instead)?;
+    let functions = FUNCTIONS.replace(alloc, stands, instead)?;
+    let desk = DESK.replace(alloc, stands, instead)?;
+    let texts = [("l", &lef), ("d", &def), ("f", &functions), ("k", &desk)];
+    run_line(alloc, line, &texts, NONE)
 }

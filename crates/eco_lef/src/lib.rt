@@ -2,7 +2,7 @@
 #![tactic(auto)]
 
 ghost use Rattle.eco_lef.specs.Limits.{LimitsKeep};
-ghost use Rattle.eco_lef.specs.Names.{NamesDiffer};
+ghost use Rattle.eco_lef.specs.Names.{NamesDiffer, NamesAreWords};
 
 mod blocks;
 mod fault;
@@ -31,6 +31,11 @@ pub fn limits_keep_libraries()
 /// A law of names: in a library no two masters have one name, and no two pins of a master.
 pub fn names_stand_once()
     ensures { NamesDiffer }
+{}
+
+/// A law of names: each name of a master and of a pin is a word that a text can have as a name.
+pub fn names_are_words()
+    ensures { NamesAreWords }
 {}
 
 #[cfg(test)]

@@ -1,5 +1,5 @@
-use crate::{LefFault, Library, Master, read_lef};
-use eco_text::{Dir, TextFault};
+use crate::{Library, Master, read_lef};
+use eco_text::Dir;
 use std::alloc::Global;
 use std::process::Abort;
 use std::test::Fail;
@@ -98,29 +98,13 @@ fn push_library(line: &mut String, library: &Library) -> Result<(), Fail> {
     Ok(())
 }
 
-fn push_fault(line: &mut String, fault: &LefFault) -> Result<(), Fail> {
-    match fault {
-        LefFault::Text(TextFault::OpenQuote { place }) => write!(line, "OpenQuote {place}")?,
-        LefFault::Unended { name } => {
-            line.push_str("Unended ")?;
-            push_bytes(line, name.bytes())?;
-        }
-        LefFault::TwiceNamed { place } => write!(line, "TwiceNamed {place}")?,
-        LefFault::TooManyMasters { place } => write!(line, "TooManyMasters {place}")?,
-        LefFault::ArrayBlock { place } => write!(line, "ArrayBlock {place}")?,
-        LefFault::BadStatement { place } => write!(line, "BadStatement {place}")?,
-        LefFault::Memory => line.push_str("memory")?,
-    }
-    Ok(())
-}
-
 /// What a text is read as: its masters, or its fault.
 fn told(rt: &impl Abort, alloc: Global, text: &str) -> Result<String, Fail> {
     assert!(rt; text.len() <= 67_108_864);
     let mut line = String::new(alloc);
     match read_lef(alloc, text.as_bytes()) {
         Ok(library) => push_library(&mut line, &library)?,
-        Err(fault) => push_fault(&mut line, &fault)?,
+        Err(fault) => write!(line, "{fault}")?,
     }
     Ok(line)
 }
@@ -264,47 +248,47 @@ fn statements_and_blocks_of_all_kinds(rt: HostRuntime) -> Result<(), Fail> {
     Ok(())
 }
 
-/// Texts, and their first faults.
+/// Texts, and their first faults as they are printed.
 const FAULTS: [(&str, &str); 34] = [
-    ("MACRO A \"b", "OpenQuote 8"),
-    ("END \"", "OpenQuote 4"),
-    ("VERSION 5.8", "Unended VERSION"),
-    ("\"a b\" c", "Unended \"a b\""),
-    ("MACRO", "Unended MACRO"),
-    ("LAYER", "Unended LAYER"),
-    ("LAYER M1 END M2", "Unended M1"),
-    ("UNITS DATABASE MICRONS 1000 ; END", "Unended UNITS"),
-    ("BEGINEXT \"note\" ENDEX", "Unended BEGINEXT"),
-    ("MACRO INV", "Unended INV"),
-    ("MACRO INV SIZE 1 BY", "Unended INV"),
-    ("MACRO INV OBS LAYER M1 ;", "Unended INV"),
-    ("MACRO INV PIN", "Unended INV"),
-    ("MACRO INV PIN A", "Unended A"),
-    ("MACRO INV PIN A DIRECTION INPUT", "Unended A"),
-    ("MACRO INV PIN A USE POWER", "Unended A"),
-    ("MACRO INV PIN A PORT LAYER M1 ;", "Unended A"),
-    ("MACRO INV PIN A END A", "Unended INV"),
-    ("MACRO INV END", "Unended INV"),
-    ("MACRO A END A MACRO A", "TwiceNamed 20"),
-    ("MACRO A PIN P END P PIN P", "TwiceNamed 24"),
-    ("MACRO A END A ARRAY x", "ArrayBlock 14"),
-    ("MACRO ;", "BadStatement 6"),
-    ("MACRO \"A\"", "BadStatement 6"),
-    ("VIA ; ", "BadStatement 4"),
-    ("MACRO A PIN (", "BadStatement 12"),
-    ("MACRO A SIZE x BY 1 ;", "BadStatement 13"),
-    ("MACRO A SIZE 1 1 ;", "BadStatement 15"),
-    ("MACRO A SIZE 1 BY 10000.1 ;", "BadStatement 18"),
-    ("MACRO A SIZE 1 BY 1 SYMMETRY", "BadStatement 20"),
-    ("MACRO A SIZE 1 BY 1 ; SIZE 1 BY ;", "BadStatement 32"),
-    ("MACRO A PIN P DIRECTION UP ;", "BadStatement 24"),
+    ("MACRO A \"b", "Text OpenQuote place=8"),
+    ("END \"", "Text OpenQuote place=4"),
+    ("VERSION 5.8", "Unended name=VERSION"),
+    ("\"a b\" c", "Unended name=\"a b\""),
+    ("MACRO", "Unended name=MACRO"),
+    ("LAYER", "Unended name=LAYER"),
+    ("LAYER M1 END M2", "Unended name=M1"),
+    ("UNITS DATABASE MICRONS 1000 ; END", "Unended name=UNITS"),
+    ("BEGINEXT \"note\" ENDEX", "Unended name=BEGINEXT"),
+    ("MACRO INV", "Unended name=INV"),
+    ("MACRO INV SIZE 1 BY", "Unended name=INV"),
+    ("MACRO INV OBS LAYER M1 ;", "Unended name=INV"),
+    ("MACRO INV PIN", "Unended name=INV"),
+    ("MACRO INV PIN A", "Unended name=A"),
+    ("MACRO INV PIN A DIRECTION INPUT", "Unended name=A"),
+    ("MACRO INV PIN A USE POWER", "Unended name=A"),
+    ("MACRO INV PIN A PORT LAYER M1 ;", "Unended name=A"),
+    ("MACRO INV PIN A END A", "Unended name=INV"),
+    ("MACRO INV END", "Unended name=INV"),
+    ("MACRO A END A MACRO A", "TwiceNamed place=20"),
+    ("MACRO A PIN P END P PIN P", "TwiceNamed place=24"),
+    ("MACRO A END A ARRAY x", "ArrayBlock place=14"),
+    ("MACRO ;", "BadStatement place=6"),
+    ("MACRO \"A\"", "BadStatement place=6"),
+    ("VIA ; ", "BadStatement place=4"),
+    ("MACRO A PIN (", "BadStatement place=12"),
+    ("MACRO A SIZE x BY 1 ;", "BadStatement place=13"),
+    ("MACRO A SIZE 1 1 ;", "BadStatement place=15"),
+    ("MACRO A SIZE 1 BY 10000.1 ;", "BadStatement place=18"),
+    ("MACRO A SIZE 1 BY 1 SYMMETRY", "BadStatement place=20"),
+    ("MACRO A SIZE 1 BY 1 ; SIZE 1 BY ;", "BadStatement place=32"),
+    ("MACRO A PIN P DIRECTION UP ;", "BadStatement place=24"),
     (
         "MACRO A PIN P DIRECTION INPUT TRISTATE ;",
-        "BadStatement 30",
+        "BadStatement place=30",
     ),
     (
         "MACRO A PIN P DIRECTION INPUT ; DIRECTION ;",
-        "BadStatement 42",
+        "BadStatement place=42",
     ),
 ];
 
@@ -331,12 +315,12 @@ fn a_library_has_at_most_16384_masters(rt: HostRuntime) -> Result<(), Fail> {
     let place = text.len() + 6;
     assert_eq!(rt;
         told(&rt, alloc, again.as_str())?,
-        format!(in alloc; "TwiceNamed {place}")?
+        format!(in alloc; "TwiceNamed place={place}")?
     );
     let more = format!(in alloc; "{text}MACRO m16384 END m16384\n")?;
     assert_eq!(rt;
         told(&rt, alloc, more.as_str())?,
-        format!(in alloc; "TooManyMasters {place}")?
+        format!(in alloc; "TooManyMasters place={place}")?
     );
     Ok(())
 }

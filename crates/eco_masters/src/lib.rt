@@ -16,3 +16,6 @@ pub use crate::fault::MasterFault;
 pub use crate::table::MasterTable;
 pub use crate::unknown::first_unknown;
 pub use crate::used::{Models, used_models};
+
+#[cfg(test)]
+mod tests;

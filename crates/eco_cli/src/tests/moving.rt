@@ -15,40 +15,31 @@ const MOVED: &str = "- n1 ( u1 Y ) ( u2 A ) ( r1 D ) ;
 
 /// Lines, whether the pin is moved, and what is printed.
 const MOVES: [(&str, bool, &str); 3] = [
-    (LINE, true, "written 593\n"),
+    (LINE, true, "written 963\n"),
     (
         "move --out o --to n1 --from n2 --pin D --comp r1 --def d",
         true,
-        "written 593\n",
+        "written 963\n",
     ),
     (
         "move --def d --comp r1 --pin D --from n2 --to n2 --out o",
         false,
-        "written 630\n",
+        "written 1000\n",
     ),
 ];
 
 #[test]
 fn a_move_is_written_and_its_length_printed(rt: HostRuntime) -> Result<(), Fail> {
     let alloc = rt.alloc();
-    let moved = TEXT.replace(alloc, UNMOVED, MOVED)?;
+    let moved = DEF.replace(alloc, UNMOVED, MOVED)?;
     for (line, moves, printed) in MOVES {
-        let answer = run_line(alloc, line, &[("d", TEXT)], NONE)?;
-        let wanted = if moves { moved.as_str() } else { TEXT };
+        let answer = run_line(alloc, line, &[("d", DEF)], NONE)?;
+        let wanted = if moves { moved.as_str() } else { DEF };
         assert_eq!(rt; answer.status, 0);
         assert_eq!(rt; answer.printed.as_str(), printed);
         assert_eq!(rt; answer.outputs.len(), 1);
         assert!(rt; answer.outputs.iter().all(|text| text.as_str() == wanted));
     }
-    Ok(())
-}
-
-#[test]
-fn a_move_in_the_whole_design(rt: HostRuntime) -> Result<(), Fail> {
-    let text = whole_design(rt.alloc())?;
-    let answer = run_line(rt.alloc(), LINE, &[("d", &text)], NONE)?;
-    assert_eq!(rt; answer.status, 0);
-    assert_eq!(rt; answer.outputs.len(), 1);
     Ok(())
 }
 
@@ -128,7 +119,7 @@ const LINES_THAT_DO_NOTHING: [(&str, u8, &str); 18] = [
 #[test]
 fn lines_that_do_nothing(rt: HostRuntime) -> Result<(), Fail> {
     for (line, status, printed) in LINES_THAT_DO_NOTHING {
-        let answer = run_line(rt.alloc(), line, &[("d", TEXT)], NONE)?;
+        let answer = run_line(rt.alloc(), line, &[("d", DEF)], NONE)?;
         assert_eq!(rt; answer.status, status);
         assert_eq!(rt; answer.printed.as_str(), printed);
         assert!(rt; answer.outputs.is_empty());
@@ -180,7 +171,7 @@ fn faults_of_objects(rt: HostRuntime) -> Result<(), Fail> {
             output,
             out,
         };
-        let answer = run_line(rt.alloc(), LINE, &[("d", TEXT)], failing)?;
+        let answer = run_line(rt.alloc(), LINE, &[("d", DEF)], failing)?;
         assert_eq!(rt; answer.status, status);
         assert_eq!(rt; answer.printed.as_str(), printed);
         assert_eq!(rt; answer.outputs.len(), outputs);
