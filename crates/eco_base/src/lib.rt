@@ -26,6 +26,3 @@ pub use crate::laws::{one_gate_applies, same_joints};
 pub use crate::one_fault::OneFault;
 pub use crate::one_gate::OneGate;
 pub use eco_overlay::{MoveFault, NewJoint, Overlay, emit, emit_len, move_joint};
-
-#[cfg(test)]
-mod tests;
