@@ -1,7 +1,8 @@
 #!/bin/sh
-# Times `eco check` on a library of 1,000 macros and on designs of 500,000 and 1,000,000 components without routes, and of
+# Times the reading of a library of 1,000 macros and of designs of 500,000 and 1,000,000 components without routes, and of
 # 200,000 and 400,000 with them, beside `wc -w` and, where they are installed, KLayout, Magic and qrouter on the same
-# files. Each line has the least of five runs; a run of more than a minute is stopped. Call it at the top of the repository with the built program:
+# files. `eco check` reads the LEF and the DEF whole, and stops at a functions file that is no TOML document. Each line has the
+# least of five runs; a run of more than a minute is stopped. Call it at the top of the repository with the built program:
 # bench/read.sh PROGRAM
 set -e
 program=$1
@@ -10,113 +11,28 @@ trap 'rm -rf "$folder"' EXIT
 lef=$folder/big.lef
 def=$folder/big.def
 half=$folder/half.def
+broken=$folder/broken.toml
+. bench/readers.sh
 
-cat >"$folder/klayout.rb" <<'END'
-options = RBA::LoadLayoutOptions::new
-options.lefdef_config.lef_files = [$lef]
-options.lefdef_config.read_lef_with_def = false
-layout = RBA::Layout::new
-layout.read($def, options)
-puts "instances #{layout.top_cell.child_instances}"
-END
-
-printf 'lef read %s\ndef read %s\nquit -noprompt\n' "$lef" "$def" >"$folder/magic.tcl"
-
-# Magic needs a technology that has the library's layers.
-cat >"$folder/metal.tech" <<'END'
-tech
-    format 28
-    metal
-end
-version
-    version 0.0
-    description "two layers of metal"
-end
-planes
-    metal1
-    metal2
-end
-types
-    metal1 m1
-    metal2 m2
-    metal1 v1
-end
-contact
-    v1 m1 m2
-end
-styles
-    styletype mos
-    m1 1
-    m2 2
-    v1 3
-end
-compose
-end
-connect
-    m1,v1 m1,v1
-    m2,v1 m2,v1
-end
-cifoutput
-style metal
-    scalefactor 5 nanometers
-    layer M1 m1,v1
-        calma 1 0
-    layer M2 m2,v1
-        calma 2 0
-end
-cifinput
-end
-drc
-    width m1 2 "M1 width"
-    width m2 2 "M2 width"
-    width v1 2 "V1 width"
-    spacing m1 m1 2 touching_ok "M1 spacing"
-    spacing m2 m2 2 touching_ok "M2 spacing"
-end
-lef
-    routing m1 M1 m1
-    routing m2 M2 m2
-    cut v1 V1 v1
-end
-extract
-style metal
-    lambda 1
-    step 100
-end
-END
-
-printf 'verbose 0\nread_lef %s\nread_def %s\nquit\n' "$lef" "$def" >"$folder/qrouter.tcl"
-
-measure() {
-    python3 bench/measure.py --times 5 "$@"
+# The user time of reading the library and a design.
+reading() {
+    measure --status 1 --says BadToml "$1" "$program" check --lef "$lef" --def "$2" --functions "$broken" --desk "$broken"
 }
 
-others() {
-    if command -v klayout >/dev/null; then
-        measure --limit 60 --says instances "klayout" klayout -b -r "$folder/klayout.rb" -rd lef="$lef" -rd def="$def"
-    fi
-    if command -v magic >/dev/null; then
-        measure --limit 60 --says "DEF read: Processed" "magic" magic -dnull -noconsole -T "$folder/metal.tech" "$folder/magic.tcl"
-    fi
-    if command -v qrouter >/dev/null; then
-        measure --limit 60 "qrouter" qrouter -nog -s "$folder/qrouter.tcl"
-    fi
-}
-
-# One design, and its half beside it: the user times of `eco check` in both, in turn.
+# One design, and its half beside it.
 design() {
     python3 bench/design.py $(($1 / 2)) $2 >"$half"
     python3 bench/design.py "$1" $2 >"$def"
     echo "design $1 $2: $(wc -c <"$def") bytes; half of it: $(wc -c <"$half") bytes"
     LC_ALL=C measure "wc -w" wc -w "$def"
-    measure --says joints "eco check of the half" "$program" check --lef "$lef" --def "$half" | tee "$folder/half.line"
-    measure --says joints "eco check" "$program" check --lef "$lef" --def "$def" | tee "$folder/whole.line"
-    cat "$folder/half.line" "$folder/whole.line" | sed 's/.*user *//; s/ .*//' | tr '\n' ' ' \
-        | awk '{ printf "%.2f times the time of the half\n", $2 / $1 }'
+    reading "eco check of the half" "$half" | tee "$folder/half.line"
+    reading "eco check" "$def" | tee "$folder/whole.line"
+    echo "$(times_user "$folder/whole.line" "$folder/half.line") times the time of the half"
     others
 }
 
 python3 bench/library.py 1000 >"$lef"
+printf '[' >"$broken"
 echo "library: $(wc -c <"$lef") bytes"
 design 1000000
 design 400000 routed

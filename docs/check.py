@@ -19,7 +19,7 @@ for crate in crates:
     for edit in folder.glob("must-fail/*.edit"):
         if edit.stem not in promises:
             wrong.append("docs/PROMISES.md doesn't name the edit %s of %s" % (edit.stem, crate))
-    for test in re.findall(r"#\[test\]\s*fn (\w+)", "".join(p.read_text() for p in sorted(folder.glob("src/tests*.rt")) + sorted(folder.glob("src/tests/*.rt")))):
+    for test in re.findall(r"#\[test\]\s*fn (\w+)", "".join(p.read_text() for p in sorted(folder.glob("src/**/*.rt")))):
         if test not in promises and test not in readme:
             wrong.append("docs/PROMISES.md doesn't name the test %s of %s" % (test, crate))
 

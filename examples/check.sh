@@ -1,5 +1,6 @@
 #!/bin/sh
-# Builds `eco` and counts what examples/small.lef and examples/small.def have.
+# Builds `eco`, opens the base of examples/small.lef, small.def, small.toml and desk.toml, and counts what it has.
 set -e
 cd "$(dirname "$0")/../crates/eco_host"
-rt run -- check --lef ../../examples/small.lef --def ../../examples/small.def
+rt run -- check --lef ../../examples/small.lef --def ../../examples/small.def --functions ../../examples/small.toml \
+    --desk ../../examples/desk.toml

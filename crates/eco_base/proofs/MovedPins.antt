@@ -1,42 +1,49 @@
 -- The test of a moved pin and of an order: what it finds, and what it refutes
-use Rattle.std.proofs.Common.{◌≡◌, ◌≢◌, ℕ, ◌<◌, ◌≤◌, Bool, true, false, not, ◌&&◌, List, [], ◌∷◌, map, length, Option, Some, None, refl, sym, ap, ◌∙◌, subst, slice_get, inl, inr, is_some, true≢false}
+use Rattle.std.proofs.Common.{◌≡◌, ℕ, Bool, true, false, not, ◌&&◌, List, [], ◌∷◌, map, length, Option, Some, None, refl, sym, ap, ◌∙◌, subst, slice_get, inl, inr, is_some, true≢false}
 use Rattle.std.specs.List.{list_all}
-use Rattle.std.specs.FinMap.{get, find}
+use Rattle.std.specs.Option.{option_map, MatchOption}
+use Rattle.std.specs.FinMap.{get}
 use Rattle.std.proofs.lemmas.Bool.{and_parts, and_from}
-use Rattle.eco_func.specs.Masters.{MasterTables}
-use Rattle.std.specs.Option.{MatchOption}
+use Rattle.eco_text.specs.declared.geometry.Dir.{Dir}
+use Rattle.eco_text.specs.declared.geometry.Dir.TheVariants.{Input}
 use Rattle.eco_net.specs.declared.ids.CompId.{CompId}
 use Rattle.eco_net.specs.declared.ids.NetId.{NetId}
 use Rattle.eco_net.specs.declared.ids.PinRef.TheVariants.{Pin}
-use Rattle.eco_net.specs.Netlist.{Name, name_cmp, Netlist, Role, Reads, CompPin, pins_of, role_of, IsNet}
-use Rattle.eco_net.specs.Drivers.{net_of}
+use Rattle.eco_net.specs.Netlist.{Name, Netlist, Component, Role, CompPin, role_of, IsNet, IsPin}
+use Rattle.eco_net.specs.Drivers.{net_of, dir_of_role}
+use Rattle.eco_net.specs.ByNumber.{role_at}
 use Rattle.eco_net.specs.Listing.{Listing, netlist, net_names, pins, pin_named, FindsPin, IsKnownPin}
 use Rattle.eco_net.specs.Kept.{IsListing}
-use Rattle.eco_net.proofs.Basics.{Has, same_Some, has_found, has_from_contains, contains_from_has}
+use Rattle.eco_net.proofs.Basics.{Has, same_Some, not_None, has_found, has_from_contains, contains_from_has}
 use Rattle.eco_net.proofs.Places.{row_of_name}
 use Rattle.eco_net.proofs.Named.{net_is}
 use Rattle.eco_base.specs.declared.one_gate.OneGate.{OneGate}
 use Rattle.eco_base.specs.NewNets.{can_be_new}
 use Rattle.eco_base.specs.OneSteps.{MovesInput, IsMovedPin, IsKnownOrder}
-use Rattle.eco_base.proofs.GatePins.{GateAt, BoxAt, its, its_found, known_pin, pin_name, pin_net, reads_at, computes_at, role_at, box_reads}
+use Rattle.eco_base.proofs.CompPins.{CompAt, its, its_found, pin_known, pin_name, pin_net, pin_dir}
 
 -- ---- the pin
 
--- a pin of a box is no input of a gate
-pub no_gate_moves : (L : Listing) (one : OneGate) → BoxAt L one.comp → MovesInput (netlist L) one → ⊥
-no_gate_moves L one b s =
-    let same : b.comp ≡ s.comp = same_Some (sym b.found ∙ s.comp_found) in
-    box_reads b.boxes one.pin (ap (λ k. find name_cmp one.pin (pins_of k)) (sym b.kind) ∙ ap (λ x. role_of x one.pin) same ∙ s.pin_reads)
+role_given : (x : Component) (p : Name) (d : Dir) → option_map dir_of_role (role_of x p) ≡ Some d → IsPin x p
+role_given x p d e = go (role_of x p) refl e
+  where
+    go : (o : Option Role) → role_of x p ≡ o → option_map dir_of_role o ≡ Some d → IsPin x p
+    go None f e = absurd (not_None (sym e))
+    go (Some r) f e = (r, f)
 
-module _ (L : Listing) (is : IsListing L) (one : OneGate) (c : CompId) (m : MasterTables) (g : GateAt L one.comp c.0 m) where
-  same : (s : MovesInput (netlist L) one) → s.comp ≡ its L is one.comp c m g
-  same s = same_Some (sym s.comp_found ∙ its_found L is one.comp c m g)
+module _ (L : Listing) (is : IsListing L) (one : OneGate) (c : CompId) (g : CompAt L one.comp c.0) where
+  same : (s : MovesInput (netlist L) one) → s.comp ≡ its L is one.comp c g
+  same s = same_Some (sym s.comp_found ∙ its_found L is one.comp c g)
+
+  its_input : MovesInput (netlist L) one → option_map dir_of_role (role_of (its L is one.comp c g) one.pin) ≡ Some Input
+  its_input s = ap (λ x. option_map dir_of_role (role_of x one.pin)) (sym (same s)) ∙ s.pin_reads
 
   -- a pin that isn't found is none
   pub no_pin : FindsPin (slice_get L.comps c.0) one.pin None → MovesInput (netlist L) one → ⊥
   no_pin f s =
+      let r = role_given (its L is one.comp c g) one.pin Input (its_input s) in
       subst (λ o. FindsPin o one.pin None) g.is f
-      (contains_from_has (map (λ p. p.0) (pins g.row)) one.pin (has_found (pins g.row) one.pin Reads (ap (λ x. role_of x one.pin) (sym (same s)) ∙ s.pin_reads)))
+      (contains_from_has (map (λ p. p.0) (pins g.row)) one.pin (has_found (pins g.row) one.pin r.0 r.1))
 
   module _ (k : ℕ) (found : FindsPin (slice_get L.comps c.0) one.pin (Some k)) where
     abbrev IsItsPin : Name × Role → Type 0
@@ -46,39 +53,34 @@ module _ (L : Listing) (is : IsListing L) (one : OneGate) (c : CompId) (m : Mast
     its_pin = let r = row_of_name (λ p. p.0) (pins g.row) k one.pin (subst (λ o. FindsPin o one.pin (Some k)) g.is found) in (r.0, (r.1, r.2))
 
     pub is_known : IsKnownPin L (Pin c k)
-    is_known = let p = its_pin in known_pin L is one.comp c m g k p.0 p.1.0
+    is_known = let p = its_pin in pin_known L is one.comp c g k p.0 p.1.0
 
     pub its_name : pin_named L (Pin c k) ≡ CompPin one.comp one.pin
-    its_name = let p = its_pin in pin_name L is one.comp c m g k p.0 p.1.0 ∙ ap (CompPin one.comp) p.1.1
+    its_name = let p = its_pin in pin_name L is one.comp c g k p.0 p.1.0 ∙ ap (CompPin one.comp) p.1.1
 
-    its_net : net_of (netlist L) (pin_named L (Pin c k)) ≡ get (its L is one.comp c m g).joined one.pin
-    its_net = let p = its_pin in pin_net L is one.comp c m g k p.0 p.1.0 ∙ ap (get (its L is one.comp c m g).joined) p.1.1
+    its_net : net_of (netlist L) (pin_named L (Pin c k)) ≡ get (its L is one.comp c g).joined one.pin
+    its_net = let p = its_pin in pin_net L is one.comp c g k p.0 p.1.0 ∙ ap (get (its L is one.comp c g).joined) p.1.1
 
-    its_role : role_of (its L is one.comp c m g) one.pin ≡ Some its_pin.0.1
-    its_role = let p = its_pin in ap (role_of (its L is one.comp c m g)) (sym p.1.1) ∙ role_at L is one.comp c m g k p.0 p.1.0
+    its_dir : option_map dir_of_role (role_at (slice_get L.comps c.0) k) ≡ option_map dir_of_role (role_of (its L is one.comp c g) one.pin)
+    its_dir = let p = its_pin in pin_dir L is one.comp c g k p.0 p.1.0 ∙ ap (λ q. option_map dir_of_role (role_of (its L is one.comp c g) q)) p.1.1
 
-    pub no_input : length m.inputs ≤ k → MovesInput (netlist L) one → ⊥
-    no_input h s =
-        let p = its_pin in
-        computes_at L is one.comp c m g k p.0 p.1.0 h (same_Some (sym its_role ∙ ap (λ x. role_of x one.pin) (sym (same s)) ∙ s.pin_reads))
+    pub reads_input : MovesInput (netlist L) one → option_map dir_of_role (role_at (slice_get L.comps c.0) k) ≡ Some Input
+    reads_input s = its_dir ∙ its_input s
 
     pub on_its_net : MovesInput (netlist L) one → net_of (netlist L) (pin_named L (Pin c k)) ≡ Some one.from_net
     on_its_net s = its_net ∙ ap (λ x. get x.joined one.pin) (sym (same s)) ∙ s.from
 
-    pub moved_pin : one.comp ≢ one.spare → k < length m.inputs → net_of (netlist L) (pin_named L (Pin c k)) ≡ Some one.from_net → IsMovedPin L one c k
-    moved_pin other h n =
-        let p = its_pin in
-        record {
-          moves = record {
-            other = other;
-            comp = its L is one.comp c m g;
-            comp_found = its_found L is one.comp c m g;
-            pin_reads = its_role ∙ ap Some (reads_at L is one.comp c m g k p.0 p.1.0 h);
-            from = sym its_net ∙ n;
-          };
-          known = is_known;
-          named = its_name;
-        }
+    pub moved_pin : option_map dir_of_role (role_at (slice_get L.comps c.0) k) ≡ Some Input → net_of (netlist L) (pin_named L (Pin c k)) ≡ Some one.from_net → IsMovedPin L one c k
+    moved_pin e n = record {
+      moves = record {
+        comp = its L is one.comp c g;
+        comp_found = its_found L is one.comp c g;
+        pin_reads = sym its_dir ∙ e;
+        from = sym its_net ∙ n;
+      };
+      known = is_known;
+      named = its_name;
+    }
 
 -- ---- the order
 

@@ -27,7 +27,6 @@ use Rattle.eco_patch.specs.Insertion.{input_pin, output_pin, input_pins, patch_n
 use Rattle.eco_base.specs.declared.one_gate.OneGate.{OneGate}
 use Rattle.eco_base.specs.OneGates.{gate_of}
 use Rattle.eco_base.specs.OneSteps.{patch_tables}
-use Rattle.eco_base.proofs.GatePins.{in_front}
 
 -- ---- the master
 
@@ -157,6 +156,11 @@ patch_more base L M gate kind es k n p net is at new rows named = record {
 }
 
 -- ---- the gate's pins, one after another
+
+in_front : {A : Type 0} (xs ys : List A) (k : ℕ) (z : A) → slice_get xs k ≡ Some z → slice_get (xs ++ ys) k ≡ Some z
+in_front [] ys k z e = absurd (not_None (sym e))
+in_front (x ∷ xs) ys zero z e = e
+in_front (x ∷ xs) ys (suc k) z e = in_front xs ys k z e
 
 abbrev pub patch_kind : TruthTable → Kind
 patch_kind t = kind_of (GivenGate (patch_tables t))

@@ -1,10 +1,6 @@
-pub mod Gates
 pub mod NewNets
 pub mod PlainBases
 pub mod OneGates
 pub mod OneLaws
-pub mod GateBases
-pub mod TiedDesigns
-pub mod OpenedGates
 pub mod OneSteps
 pub mod OneAnswers

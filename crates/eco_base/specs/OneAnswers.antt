@@ -2,26 +2,26 @@
 use Rattle.std.specs.Prelude.{List, Result, Ok, Err}
 use Rattle.eco_func.specs.Masters.{MasterTables}
 use Rattle.eco_issued.specs.Issued.{Edit}
+use Rattle.eco_opening.specs.Bases.{BaseParts, frozen}
 use Rattle.eco_base.specs.declared.one_gate.OneGate.{OneGate}
 use Rattle.eco_base.specs.declared.one_fault.OneFault.{OneFault}
 use Rattle.eco_base.specs.declared.one_fault.OneFault.TheVariants.{NotSpare, BadOrder, NotEmbedding, Memory}
-use Rattle.eco_base.specs.GateBases.{BaseParts, said_design, base_netlist}
 use Rattle.eco_base.specs.OneGates.{IsOneSpare, IsGoodOrder, IsEmbedded, IsApplied}
 use Rattle.eco_base.specs.OneSteps.{IsSpareGate}
 
 -- the spare, the order and the embedding are as they must be; the spare's master
 pub record IsReady (b : BaseParts) (one : OneGate) (m : MasterTables) : Type 0 where
-  pub gate : IsSpareGate (base_netlist b) b.low b.high one.spare m
-  pub good : IsGoodOrder (base_netlist b) b.low b.high one
+  pub gate : IsSpareGate (frozen b.texts) one.spare m
+  pub good : IsGoodOrder (frozen b.texts) one
   pub embedded : IsEmbedded one gate.spare.comp gate.spare.output
 
 -- the first of the three that isn't as it must be
 abbrev pub IsRefused : BaseParts → OneGate → OneFault → Type 0
-IsRefused b one NotSpare = IsOneSpare (base_netlist b) b.low b.high one.spare → ⊥
-IsRefused b one BadOrder = IsOneSpare (base_netlist b) b.low b.high one.spare × (IsGoodOrder (base_netlist b) b.low b.high one → ⊥)
+IsRefused b one NotSpare = IsOneSpare (frozen b.texts) one.spare → ⊥
+IsRefused b one BadOrder = IsOneSpare (frozen b.texts) one.spare × (IsGoodOrder (frozen b.texts) one → ⊥)
 IsRefused b one NotEmbedding =
-    (spare : IsOneSpare (base_netlist b) b.low b.high one.spare)
-    × IsGoodOrder (base_netlist b) b.low b.high one
+    (spare : IsOneSpare (frozen b.texts) one.spare)
+    × IsGoodOrder (frozen b.texts) one
     × (IsEmbedded one spare.comp spare.output → ⊥)
 IsRefused b one Memory = Unit {0}
 
@@ -29,8 +29,8 @@ IsRefused b one Memory = Unit {0}
 -- so, unless memory ran out.
 abbrev pub AppliesOne : BaseParts → OneGate → Result (List Edit) OneFault → Type 0
 AppliesOne b one (Ok overlay) =
-    (spare : IsOneSpare (base_netlist b) b.low b.high one.spare)
-    × IsGoodOrder (base_netlist b) b.low b.high one
+    (spare : IsOneSpare (frozen b.texts) one.spare)
+    × IsGoodOrder (frozen b.texts) one
     × IsEmbedded one spare.comp spare.output
-    × IsApplied b.functions b.low b.high b.text (said_design b) one spare.output overlay
+    × IsApplied b.texts one spare.output overlay
 AppliesOne b one (Err e) = IsRefused b one e

@@ -1,49 +1,39 @@
 -- What the steps of `apply_one` find, one by one.
-use Rattle.std.specs.Prelude.{◌≡◌, ◌≢◌, ◌<◌, ◌⊎◌, ℕ, true, List, [], ◌∷◌, map, length, Option, Some, None}
+use Rattle.std.specs.Prelude.{◌≡◌, ℕ, true, List, [], ◌∷◌, map, length, Some, None}
 use Rattle.std.specs.List.{Contains, zip, range_with_len}
+use Rattle.std.specs.Option.{option_map}
 use Rattle.std.specs.FinMap.{get}
+use Rattle.eco_text.specs.declared.geometry.Dir.TheVariants.{Input}
 use Rattle.eco_func.specs.declared.output.OutputFn.{OutputFn}
 use Rattle.eco_func.specs.Tables.{TruthTable}
 use Rattle.eco_func.specs.Masters.{MasterTables, is_master}
 use Rattle.eco_net.specs.declared.ids.CompId.{CompId}
 use Rattle.eco_net.specs.declared.ids.PinRef.TheVariants.{Pin}
-use Rattle.eco_net.specs.declared.kind.Kind.{Kind}
-use Rattle.eco_net.specs.declared.kind.Kind.TheVariants.{Gate, Boxed}
-use Rattle.eco_net.specs.Netlist.{Name, Netlist, Component, CompPin, Reads, role_of, IsNet}
-use Rattle.eco_net.specs.Drivers.{net_of}
+use Rattle.eco_net.specs.declared.kind.Kind.TheVariants.{Gate}
+use Rattle.eco_net.specs.Netlist.{Name, Netlist, Component, CompPin, role_of, IsNet}
+use Rattle.eco_net.specs.Drivers.{dir_of_role}
 use Rattle.eco_net.specs.Listing.{Listing, netlist, pin_named, kind_of, IsKnownPin}
-use Rattle.eco_base.specs.declared.one_gate.OneGate.{OneGate}
-use Rattle.eco_base.specs.NewNets.{can_be_new}
 use Rattle.eco_patch.specs.Joints.{Joint}
 use Rattle.eco_patch.specs.Insertion.{move_joint, input_pin, output_pin, with_moves, inserted}
-use Rattle.eco_patch.specs.Lone.{lone_order}
 use Rattle.eco_patch.specs.Realisation.{on_pin, feed_joints}
-use Rattle.eco_base.specs.OneGates.{feed_of, gate_of, move_of, IsOneSpare}
+use Rattle.eco_patch.specs.Bases.{Base}
+use Rattle.eco_base.specs.declared.one_gate.OneGate.{OneGate}
+use Rattle.eco_base.specs.NewNets.{can_be_new}
+use Rattle.eco_base.specs.OneGates.{feed_of, gate_of, move_of, order_of, IsOneSpare}
 
-abbrev pub gate_master : Kind → Option MasterTables
-gate_master (Gate m) = Some m
-gate_master (Boxed pins) = None
-
--- each of a component's first pins is on the low or the high net
-abbrev pub AreTied : Listing → Name → Name → CompId → ℕ → Type 0
-AreTied L low high comp pins =
-    (k : ℕ) → k < pins
-    → (net_of (netlist L) (pin_named L (Pin comp k)) ≡ Some low) ⊎ (net_of (netlist L) (pin_named L (Pin comp k)) ≡ Some high)
-
--- the component is a spare, and this is its master
-pub record IsSpareGate (N : Netlist) (low high name : Name) (m : MasterTables) : Type 0 where
-  pub spare : IsOneSpare N low high name
+-- the component is a spare of the stock with one output, and this is its master
+pub record IsSpareGate (base : Base) (name : Name) (m : MasterTables) : Type 0 where
+  pub spare : IsOneSpare base name
   pub master : is_master m.inputs m.outputs ≡ true
   pub kind : spare.comp.kind ≡ kind_of (Gate m)
   pub output : OutputFn
   pub one : m.outputs ≡ output ∷ []
 
--- the pin is an input of a component other than the spare, and on the net that it leaves
+-- the pin is an input of a component, and on the net that it leaves
 pub record MovesInput (N : Netlist) (one : OneGate) : Type 0 where
-  pub other : one.comp ≢ one.spare
   pub comp : Component
   pub comp_found : get N.comps one.comp ≡ Some comp
-  pub pin_reads : role_of comp one.pin ≡ Some Reads
+  pub pin_reads : option_map dir_of_role (role_of comp one.pin) ≡ Some Input
   pub from : get comp.joined one.pin ≡ Some one.from_net
 
 -- the numbers are those of such a pin
@@ -52,7 +42,7 @@ pub record IsMovedPin (L : Listing) (one : OneGate) (comp : CompId) (pin : ℕ) 
   pub known : IsKnownPin L (Pin comp pin)
   pub named : pin_named L (Pin comp pin) ≡ CompPin one.comp one.pin
 
--- a good order, but that a signal may run in a circle
+-- a good order on a netlist without the stock, but that a signal may run in a circle
 pub record IsKnownOrder (N : Netlist) (one : OneGate) : Type 0 where
   pub inputs_known : (n : Name) → Contains one.inputs.items n → IsNet N n
   pub output_form : can_be_new one.output ≡ true
@@ -70,9 +60,9 @@ abbrev pub patch_tables : TruthTable → MasterTables
 patch_tables t = record { name = []; inputs = map input_pin (range_with_len 0 t.inputs); outputs = record { pin = output_pin; table = t } ∷ [] }
 
 -- the netlist with the new net and the pin on it
-abbrev pub moved_beside : Netlist → OneGate → Netlist
-moved_beside N one = with_moves N (lone_order (gate_of one) (move_of one))
+abbrev pub moved_on : Netlist → OneGate → Netlist
+moved_on N one = with_moves N (order_of one)
 
--- the netlist with the gate and the move, the spare beside it
-abbrev pub patched_beside : Netlist → OneGate → Netlist
-patched_beside N one = inserted [] (λ gate. None) N (lone_order (gate_of one) (move_of one))
+-- the netlist with the gate and the move
+abbrev pub patched_on : Netlist → OneGate → Netlist
+patched_on N one = inserted [] (λ gate. None) N (order_of one)

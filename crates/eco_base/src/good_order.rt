@@ -8,7 +8,7 @@ ghost use Rattle.eco_net.specs.Kept.{IsListing};
 ghost use Rattle.eco_base.specs.NewNets.{can_be_new as can_name_new};
 ghost use Rattle.eco_base.specs.OneSteps.{MovesInput, IsMovedPin, IsKnownOrder};
 
-use crate::named_pins::{is_named, master_at, net_at};
+use crate::named_pins::{is_input, is_named, net_at};
 use crate::new_nets::can_be_new;
 use crate::one_gate::OneGate;
 use eco_func::Name;
@@ -30,24 +30,18 @@ fn are_nets(netlist: &Netlist, names: &[Name]) -> bool
     names.iter().all(|name| is_net(netlist, name.bytes()))
 }
 
-/// The numbers of the moved pin, if it is an input of a component other than the spare and on the net that it leaves.
+/// The numbers of the moved pin, if it is an input of a component and on the net that it leaves.
 fn moved_pin(netlist: &Netlist, one: &OneGate) -> Option<(CompId, u32)>
     requires { IsListing netlist.now }
     ensures { MatchOption result (¬ MovesInput (listed netlist.now) one.now) (λ p. IsMovedPin netlist.now one.now p.0 p.1) }
 {
-    if one.comp.is(one.spare.bytes()) {
-        return None;
-    }
     let Some(comp) = netlist.find_comp(one.comp.bytes()) else {
-        return None;
-    };
-    let Some(master) = master_at(netlist, comp) else {
         return None;
     };
     let Some(pin) = netlist.find_pin(comp, one.pin.bytes()) else {
         return None;
     };
-    if pin as usize >= master.inputs().len() {
+    if !is_input(netlist, comp, pin) {
         return None;
     }
     if is_named(net_at(netlist, comp, pin), one.from_net.bytes()) {

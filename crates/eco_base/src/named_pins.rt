@@ -1,23 +1,24 @@
-//! Pins of a netlist's gates, and the nets that they are on, by name.
+//! Pins that are inputs, and the nets that pins are on, by name.
 
-ghost use Rattle.std.specs.Prelude.{◌≡◌, ◌<◌, ◌↔◌, Some, IsTrue, length, slice_get, option_copied};
+ghost use Rattle.std.specs.Prelude.{◌≡◌, ◌↔◌, Some, IsTrue, slice_get, option_copied};
 ghost use Rattle.std.specs.Option.{option_map};
+ghost use Rattle.eco_text.specs.declared.geometry.Dir.TheVariants.{Input};
 ghost use Rattle.eco_net.specs.declared.ids.PinRef.{PinRef};
-ghost use Rattle.eco_net.specs.Drivers.{net_of};
+ghost use Rattle.eco_net.specs.Drivers.{net_of, dir_of_role};
+ghost use Rattle.eco_net.specs.ByNumber.{role_at};
 ghost use Rattle.eco_net.specs.Listing.{netlist as listed, pin_named, IsKnownPin};
-ghost use Rattle.eco_base.specs.OneSteps.{gate_master};
 
-use eco_func::MasterFn;
-use eco_net::{CompId, Kind, Netlist, PinRef};
+use eco_net::{CompId, Netlist, PinRef};
+use eco_text::Dir;
 
-/// The master of a component that is a gate.
-pub(crate) fn master_at(netlist: &Netlist, comp: CompId) -> Option<&MasterFn>
-    requires { comp.0 < length netlist.now.comps }
-    ensures { option_map (λ r. gate_master r.kind) (slice_get netlist.now.comps comp.0) ≡ Some (option_copied result) }
+/// Whether a pin is an input, of a gate or a box.
+pub(crate) fn is_input(netlist: &Netlist, comp: CompId, pin: u32) -> bool
+    requires { IsKnownPin netlist.now (PinRef.Pin comp pin) }
+    ensures { IsTrue result ↔ (option_map dir_of_role (role_at (slice_get netlist.now.comps comp.0) pin) ≡ Some Input) }
 {
-    match netlist.kind(comp) {
-        Kind::Gate(master) => Some(master),
-        Kind::Boxed(_) => None,
+    match netlist.pin_dir(comp, pin) {
+        Dir::Input => true,
+        Dir::Output | Dir::Inout => false,
     }
 }
 

@@ -10,13 +10,12 @@ use thiserror::Error;
 /// Why `apply_one` refuses an order: the first reason there is.
 #[derive(Clone, Copy, Debug, Drop, PartialEq, Eq, Error)]
 pub enum OneFault {
-    /// The component isn't placed, an input of it isn't on a tie net, an output is on a net, or its master has not
-    /// exactly one output.
+    /// The component isn't stock, or its master has not exactly one output.
     #[error("NotSpare")]
     NotSpare,
-    /// An input isn't a net, the output isn't of the form of a new net or is a net, the pin isn't an input of another
-    /// component or isn't on the net that it is moved from, the table has another number of inputs, or a signal would
-    /// run in a circle.
+    /// An input isn't a net, the output isn't of the form of a new net or is a net, the pin isn't an input of a component
+    /// that is no stock or isn't on the net that it is moved from, the table has another number of inputs, or a signal
+    /// would run in a circle.
     #[error("BadOrder")]
     BadOrder,
     /// The spare with its pins tied so isn't the gate.

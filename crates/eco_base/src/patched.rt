@@ -10,7 +10,7 @@ ghost use Rattle.eco_net.specs.Changes.{with_pin_on};
 ghost use Rattle.eco_net.specs.Listing.{netlist as listed, pin_named, with_joint, IsKnownPin};
 ghost use Rattle.eco_patch.specs.Insertion.{patch_name, patch_component};
 ghost use Rattle.eco_base.specs.OneGates.{gate_of};
-ghost use Rattle.eco_base.specs.OneSteps.{IsMovedPin, IsKnownOrder, moved_beside, patched_beside};
+ghost use Rattle.eco_base.specs.OneSteps.{IsMovedPin, IsKnownOrder, moved_on, patched_on};
 
 use crate::one_gate::OneGate;
 use crate::patch_master::patch_master;
@@ -61,7 +61,7 @@ fn with_move(
     requires few { length netlist.now.nets < 9000000 }
     requires known { IsKnownOrder (listed netlist.now) one.now }
     requires moved { IsMovedPin netlist.now one.now comp pin }
-    ensures named { IfOk result (λ m. listed m ≡ moved_beside (listed netlist.now) one.now) }
+    ensures named { IfOk result (λ m. listed m ≡ moved_on (listed netlist.now) one.now) }
     ensures count { IfOk result (λ m. length m.comps ≡ length netlist.now.comps) }
 {
     let mut maker = NetlistMaker::of(alloc, netlist)?;
@@ -71,7 +71,7 @@ fn with_move(
     Ok(maker)
 }
 
-/// The netlist with the gate inserted beside its spare and the pin moved.
+/// The netlist with the gate inserted and the pin moved.
 fn patched(
     alloc: Global,
     netlist: &Netlist,
@@ -84,14 +84,14 @@ fn patched(
     requires new_name { get (listed netlist.now).comps (patch_name [] []) ≡ None }
     requires known { IsKnownOrder (listed netlist.now) one.now }
     requires moved { IsMovedPin netlist.now one.now comp pin }
-    ensures { IfOk result (λ n. listed n ≡ patched_beside (listed netlist.now) one.now) }
+    ensures { IfOk result (λ n. listed n ≡ patched_on (listed netlist.now) one.now) }
 {
     let mut maker = with_move(alloc, netlist, one, comp, pin)?;
     insert_gate(alloc, &mut maker, one)?;
     maker.finish(alloc)
 }
 
-/// Whether no signal runs in a circle where the gate is inserted beside its spare and the pin is moved.
+/// Whether no signal runs in a circle where the gate is inserted and the pin is moved.
 pub(crate) fn is_loop_free(
     alloc: Global,
     netlist: &Netlist,
@@ -104,7 +104,7 @@ pub(crate) fn is_loop_free(
     requires new_name { get (listed netlist.now).comps (patch_name [] []) ≡ None }
     requires known { IsKnownOrder (listed netlist.now) one.now }
     requires moved { IsMovedPin netlist.now one.now comp pin }
-    ensures { IfOk result (λ b. IsTrue b ↔ IsLoopFree (patched_beside (listed netlist.now) one.now)) }
+    ensures { IfOk result (λ b. IsTrue b ↔ IsLoopFree (patched_on (listed netlist.now) one.now)) }
 {
     let patched = patched(alloc, netlist, one, comp, pin)?;
     match patched.levels(alloc) {

@@ -1,10 +1,10 @@
 pub mod Opening
 mod Answering
-mod Counting
 mod Ending
 mod Forms
+mod FourTexts
 mod Lines
+mod NoBase
 mod Reading
-mod TwoTexts
 mod Words
 mod Writing

@@ -1,18 +1,17 @@
 -- What the command apply does.
-use Rattle.std.specs.Prelude.{◌≡◌, ◌≢◌, ℕ, ◌+◌, List, [], ◌∷◌, map, length, codes, Some, Err}
+use Rattle.std.specs.Prelude.{◌≡◌, ◌≢◌, ℕ, ◌+◌, List, [], ◌∷◌, map, length, codes, Some, Ok, Err}
 use Rattle.eco_func.specs.FunctionsFile.{table_of}
 use Rattle.eco_func.specs.Tables.{TruthTable}
 use Rattle.eco_embed.specs.declared.feed.Feed.{Feed}
 use Rattle.eco_embed.specs.declared.feed.Feed.TheVariants as feed
-use Rattle.eco_net.specs.Netlist.{Name}
 use Rattle.eco_issued.specs.Issued.{Edit, edited}
-use Rattle.eco_base.specs.declared.gate_fault.GateFault.TheVariants as gates
+use Rattle.eco_opening.specs.Bases.{BaseParts}
+use Rattle.eco_opening.specs.Opened.{IsOpened}
+use Rattle.eco_base.specs.declared.one_fault.OneFault.{OneFault}
 use Rattle.eco_base.specs.declared.one_fault.OneFault.TheVariants as fault
 use Rattle.eco_base.specs.declared.one_gate.OneGate.{OneGate}
-use Rattle.eco_base.specs.GateBases.{BaseParts, said_design}
-use Rattle.eco_base.specs.OneGates.{IsApplied}
-use Rattle.eco_base.specs.OpenedGates.{IsOpened, Opens}
 use Rattle.eco_base.specs.OneAnswers.{AppliesOne}
+use Rattle.eco_cli.specs.BaseTexts.{RefusesBase}
 use Rattle.eco_cli.specs.CommandLine.{Listed, value_of}
 use Rattle.eco_cli.specs.ValueForms.{items_of}
 use Rattle.eco_cli.specs.declared.apply_words.ApplyWords.{ApplyWords}
@@ -24,10 +23,10 @@ use Rattle.eco_cli.specs.declared.refusal.Refusal.TheVariants as refused
 
 abbrev pub apply_options : List Listed
 apply_options =
-    record { word = codes "--def"; kind = kind.Input 134217728 }
+    record { word = codes "--lef"; kind = kind.Input 67108864 }
+    ∷ record { word = codes "--def"; kind = kind.Input 134217728 }
     ∷ record { word = codes "--functions"; kind = kind.Input 16777216 }
-    ∷ record { word = codes "--high"; kind = kind.Text }
-    ∷ record { word = codes "--low"; kind = kind.Text }
+    ∷ record { word = codes "--desk"; kind = kind.Input 1048576 }
     ∷ record { word = codes "--spare"; kind = kind.Text }
     ∷ record { word = codes "--table"; kind = kind.Table }
     ∷ record { word = codes "--inputs"; kind = kind.Names }
@@ -39,10 +38,8 @@ apply_options =
     ∷ record { word = codes "--out"; kind = kind.Text }
     ∷ []
 
--- the tie nets, the spare, the gate with its nets, and the pin that is moved
+-- the spare, the gate with its nets, and the pin that is moved
 pub record Apply : Type 0 where
-  pub high : List ℕ
-  pub low : List ℕ
   pub spare : List ℕ
   pub table : TruthTable
   pub inputs : List (List ℕ)
@@ -60,8 +57,6 @@ feed_word (feed.Input n) = 105 ∷ (48 + n) ∷ []
 
 -- The words behind apply ask this.
 pub record AsksApply (words : List (List ℕ)) (a : Apply) : Type 0 where
-  pub high : a.high ≡ value_of words (codes "--high")
-  pub low : a.low ≡ value_of words (codes "--low")
   pub spare : a.spare ≡ value_of words (codes "--spare")
   pub table : (m : ℕ) × (table_of m (value_of words (codes "--table")) ≡ Some a.table)
   pub inputs : a.inputs ≡ items_of (value_of words (codes "--inputs"))
@@ -73,8 +68,6 @@ pub record AsksApply (words : List (List ℕ)) (a : Apply) : Type 0 where
 
 abbrev pub apply_of : ApplyWords → Apply
 apply_of a = record {
-  high = a.high.now;
-  low = a.low.now;
   spare = a.spare.now;
   table = record { inputs = a.table.inputs; bits = a.table.bits };
   inputs = map (λ name. name.now) a.inputs.items;
@@ -98,34 +91,40 @@ pub record IsOrder (a : Apply) (one : OneGate) : Type 0 where
   pub pin : one.pin ≡ a.pin
   pub from : one.from_net ≡ a.from
 
--- The texts are those of a base between the tie nets. An overlay applies the order in it: it puts the spare's pins on their
--- nets, and with it the netlist computes the same as with the gate. The issued text is the base's, edited so.
-pub record IsPatched (a : Apply) (def functions issued : List ℕ) : Type 0 where
+-- The texts are those of a base, and an overlay applies the order in it: it puts the spare's pins on their nets, and with it the
+-- netlist computes the same as with the gate. The issued text is the base's, edited so.
+pub record IsPatched (a : Apply) (lef def functions desk issued : List ℕ) : Type 0 where
   pub base : BaseParts
-  pub opened : IsOpened def functions a.high a.low base
+  pub opened : IsOpened lef def functions desk base
   pub one : OneGate
   pub order : IsOrder a one
-  pub output : Name
   pub overlay : List Edit
-  pub applied : IsApplied base.functions base.low base.high base.text (said_design base) one output overlay
-  pub written : issued ≡ edited base.text 0 overlay
+  pub applied : AppliesOne base one (Ok overlay)
+  pub written : issued ≡ edited base.texts.text 0 overlay
+
+-- the order is refused by this first reason
+pub record IsRefusedOrder (a : Apply) (base : BaseParts) (f : OneFault) : Type 0 where
+  pub one : OneGate
+  pub order : IsOrder a one
+  pub refused : AppliesOne base one (Err f)
+  pub reason : f ≢ fault.Memory
 
 -- the patched text is written, and its length is told
-abbrev pub GivesPatched : Apply → List ℕ → List ℕ → Done → List ℕ → Type 0
-GivesPatched a def functions (done.Written count) issued = IsPatched a def functions issued × (count ≡ length issued)
-GivesPatched a def functions d issued = ⊥
+abbrev pub GivesPatched : Apply → List ℕ → List ℕ → List ℕ → List ℕ → Done → List ℕ → Type 0
+GivesPatched a lef def functions desk (done.Written count) issued = IsPatched a lef def functions desk issued × (count ≡ length issued)
+GivesPatched a lef def functions desk d issued = ⊥
 
--- the texts are those of no base, by this first reason; or of a base in which the order is refused by this first reason
-abbrev pub RefusesPatch : Apply → List ℕ → List ℕ → Refusal → Type 0
-RefusesPatch a def functions (refused.Gates f) = Opens def functions a.high a.low (Err f) × (f ≢ gates.Memory)
-RefusesPatch a def functions (refused.Apply f) = (base : BaseParts) × IsOpened def functions a.high a.low base × ((one : OneGate) × IsOrder a one × AppliesOne base one (Err f)) × (f ≢ fault.Memory)
-RefusesPatch a def functions r = ⊥
+-- the texts are those of no base, or of one in which the order is refused
+abbrev pub RefusesPatch : Apply → List ℕ → List ℕ → List ℕ → List ℕ → Refusal → Type 0
+RefusesPatch a lef def functions desk (refused.Base f) = RefusesBase lef def functions desk f
+RefusesPatch a lef def functions desk (refused.Apply f) = (base : BaseParts) × IsOpened lef def functions desk base × IsRefusedOrder a base f
+RefusesPatch a lef def functions desk r = ⊥
 
--- An order has two texts, that of the DEF and that of the functions file, and its output is the patched text.
+-- An order has the four texts of a base, and its output is the patched text.
 abbrev pub ApplyGives : List (List ℕ) → List (List ℕ) → Done → List ℕ → Type 0
-ApplyGives words (def ∷ functions ∷ []) d issued = (a : Apply) × AsksApply words a × GivesPatched a def functions d issued
+ApplyGives words (lef ∷ def ∷ functions ∷ desk ∷ []) d issued = (a : Apply) × AsksApply words a × GivesPatched a lef def functions desk d issued
 ApplyGives words texts d issued = ⊥
 
 abbrev pub ApplyRefuses : List (List ℕ) → List (List ℕ) → Refusal → Type 0
-ApplyRefuses words (def ∷ functions ∷ []) r = (a : Apply) × AsksApply words a × RefusesPatch a def functions r
+ApplyRefuses words (lef ∷ def ∷ functions ∷ desk ∷ []) r = (a : Apply) × AsksApply words a × RefusesPatch a lef def functions desk r
 ApplyRefuses words texts r = ⊥

@@ -1,13 +1,12 @@
 -- What the command check does.
-use Rattle.std.specs.Prelude.{◌≡◌, ℕ, ◌+◌, List, [], ◌∷◌, length, codes, Err}
-use Rattle.eco_def.specs.Design.{Design}
-use Rattle.eco_def.specs.Limits.{joint_count, reading_of}
-use Rattle.eco_lef.specs.Grammar.{library_within}
-use Rattle.eco_lef.specs.Limits.{IsLibraryOf}
-use Rattle.eco_lef.specs.declared.master.Master.{Master}
+use Rattle.std.specs.Prelude.{◌≡◌, ℕ, List, [], ◌∷◌, codes}
+use Rattle.eco_net.specs.Depth.{IsDepth}
+use Rattle.eco_patch.specs.Bases.{bare}
+use Rattle.eco_opening.specs.Bases.{BaseParts, frozen}
+use Rattle.eco_opening.specs.Census.{IsCensusOf}
+use Rattle.eco_opening.specs.Opened.{IsOpened}
+use Rattle.eco_cli.specs.BaseTexts.{RefusesBase}
 use Rattle.eco_cli.specs.CommandLine.{Listed}
-use Rattle.eco_cli.specs.Designs.{HasDesign}
-use Rattle.eco_cli.specs.declared.base_fault.BaseFault.TheVariants as base
 use Rattle.eco_cli.specs.declared.command_option.OptionKind.TheVariants as kind
 use Rattle.eco_cli.specs.declared.done.Done.{Done}
 use Rattle.eco_cli.specs.declared.done.Done.TheVariants as done
@@ -19,34 +18,26 @@ abbrev pub check_options : List Listed
 check_options =
     record { word = codes "--lef"; kind = kind.Input 67108864 }
     ∷ record { word = codes "--def"; kind = kind.Input 134217728 }
+    ∷ record { word = codes "--functions"; kind = kind.Input 16777216 }
+    ∷ record { word = codes "--desk"; kind = kind.Input 1048576 }
     ∷ []
 
--- how many masters a library has, and how many components, top pins, net statements and joints a design has, those of
--- SPECIALNETS counted in
-abbrev pub report_of : List Master → Design → Report
-report_of masters d = record {
-  masters = length masters;
-  components = length d.comps;
-  pins = length d.pins;
-  statements = length d.special + length d.nets.nets;
-  joints = joint_count d.special + joint_count d.nets.nets;
-}
+-- how much a base has, and how deep its gates stand where the stock is left out
+pub record IsReportOf (b : BaseParts) (r : Report) : Type 0 where
+  pub census : IsCensusOf b.texts r.census
+  pub levels : IsDepth (bare (frozen b.texts)) r.levels
 
--- the LEF has a library, the DEF has a design, and these are their numbers
-pub record IsChecked (lef def : List ℕ) (report : Report) : Type 0 where
-  pub masters : List Master
-  pub design : Design
-  pub library : IsLibraryOf 16384 lef masters
-  pub read : HasDesign def design
-  pub counted : report ≡ report_of masters design
+-- the texts are those of a base, and this is its report
+pub record IsChecked (lef def functions desk : List ℕ) (r : Report) : Type 0 where
+  pub base : BaseParts
+  pub opened : IsOpened lef def functions desk base
+  pub report : IsReportOf base r
 
--- A check has two texts, that of the LEF and that of the DEF. It writes nothing.
+-- A check has the four texts of a base. It writes nothing.
 abbrev pub CheckGives : List (List ℕ) → Done → List ℕ → Type 0
-CheckGives (lef ∷ def ∷ []) (done.Checked report) written = IsChecked lef def report × (written ≡ [])
+CheckGives (lef ∷ def ∷ functions ∷ desk ∷ []) (done.Checked report) written = IsChecked lef def functions desk report × (written ≡ [])
 CheckGives texts d written = ⊥
 
--- the LEF has this first fault; or the LEF has a library, and the DEF has this first fault
 abbrev pub CheckRefuses : List (List ℕ) → Refusal → Type 0
-CheckRefuses (lef ∷ def ∷ []) (refused.Base (base.Lef fault)) = library_within 16384 lef ≡ Err fault
-CheckRefuses (lef ∷ def ∷ []) (refused.Base (base.Def fault)) = (masters : List Master) × IsLibraryOf 16384 lef masters × (reading_of def ≡ Err fault)
+CheckRefuses (lef ∷ def ∷ functions ∷ desk ∷ []) (refused.Base fault) = RefusesBase lef def functions desk fault
 CheckRefuses texts r = ⊥

@@ -5,6 +5,7 @@ pub mod Job
 pub mod ValueForms
 pub mod CommandLine
 pub mod Designs
+pub mod BaseTexts
 pub mod CheckCommand
 pub mod MoveCommand
 pub mod ApplyCommand

@@ -1,6 +1,7 @@
 -- What a command prints and answers.
 use Rattle.std.specs.Prelude.{◌≡◌, ℕ, decimal, ◌⊎◌, List, [], ◌∷◌, ◌++◌, Option, Result, Ok, Err, codes}
 use Rattle.std.specs.Io.KnownBytes.{append_known}
+use Rattle.std.specs.List.{flat_map}
 use Rattle.eco_text.specs.Causes.{Rose, AppendsFront}
 use Rattle.eco_text.specs.declared.word.TextFault.{TextFault}
 use Rattle.eco_text.specs.declared.word.TextFault.TheVariants.{OpenQuote}
@@ -12,14 +13,13 @@ use Rattle.eco_lef.specs.declared.fault.LefFault.{LefFault}
 use Rattle.eco_lef.specs.declared.fault.LefFault.TheVariants as lef
 use Rattle.eco_func.specs.declared.fault.FuncFault.{FuncFault}
 use Rattle.eco_func.specs.declared.fault.FuncFault.TheVariants as func
+use Rattle.eco_net.specs.Netlist.{Name}
 use Rattle.eco_overlay.specs.declared.fault.MoveFault.{MoveFault}
 use Rattle.eco_overlay.specs.declared.fault.MoveFault.TheVariants as moving
-use Rattle.eco_base.specs.declared.gate_fault.GateFault.{GateFault}
-use Rattle.eco_base.specs.declared.gate_fault.GateFault.TheVariants as gates
+use Rattle.eco_opening.specs.declared.fault.BaseFault.{BaseFault}
+use Rattle.eco_opening.specs.declared.fault.BaseFault.TheVariants as base
 use Rattle.eco_base.specs.declared.one_fault.OneFault.{OneFault}
 use Rattle.eco_base.specs.declared.one_fault.OneFault.TheVariants as one
-use Rattle.eco_cli.specs.declared.base_fault.BaseFault.{BaseFault}
-use Rattle.eco_cli.specs.declared.base_fault.BaseFault.TheVariants as base
 use Rattle.eco_cli.specs.declared.done.Done.{Done}
 use Rattle.eco_cli.specs.declared.done.Done.TheVariants as done
 use Rattle.eco_cli.specs.declared.failure.Failure.{Failure}
@@ -74,11 +74,6 @@ lef_text (lef.ArrayBlock place) = codes "ArrayBlock place=" ++ decimal place
 lef_text (lef.BadStatement place) = codes "BadStatement place=" ++ decimal place
 lef_text lef.Memory = codes "memory"
 
--- the fault of a base's file, behind the file's kind
-abbrev pub base_text : BaseFault → List ℕ
-base_text (base.Lef fault) = codes "eco: base Lef " ++ lef_text fault
-base_text (base.Def fault) = codes "eco: base Def " ++ def_text fault
-
 -- a fault of a functions file by its name and its fields
 abbrev pub func_text : FuncFault → List ℕ
 func_text func.BadToml = codes "BadToml"
@@ -90,12 +85,27 @@ func_text (func.UnknownInput master output input) = codes "UnknownInput master="
 func_text (func.TooManyMasters count) = codes "TooManyMasters count=" ++ decimal count
 func_text func.Memory = codes "memory"
 
--- why files give no base of gates
-abbrev pub gates_text : GateFault → List ℕ
-gates_text (gates.Def fault) = codes "eco: base Def " ++ def_text fault
-gates_text (gates.Func fault) = codes "eco: base Func " ++ func_text fault
-gates_text gates.NotYet = codes "eco: base NotYet"
-gates_text gates.Memory = codes "eco: memory"
+-- names with commas between them
+abbrev pub names_text : List Name → List ℕ
+names_text [] = []
+names_text (n ∷ ns) = n ++ flat_map (λ m. 44 ∷ m) ns
+
+-- why texts give no base, by the fault's name and its fields
+abbrev pub base_text : BaseFault → List ℕ
+base_text (base.Lef fault) = codes "eco: base Lef " ++ lef_text fault
+base_text (base.Def fault) = codes "eco: base Def " ++ def_text fault
+base_text (base.Func fault) = codes "eco: base Func " ++ func_text fault
+base_text (base.Desk field) = codes "eco: base Desk field=" ++ field
+base_text (base.UnknownMaster comp) = codes "eco: base UnknownMaster comp=" ++ comp
+base_text (base.FunctionPins master pin) = codes "eco: base FunctionPins master=" ++ (master ++ (codes " pin=" ++ pin))
+base_text (base.UnknownPin net place) = codes "eco: base UnknownPin net=" ++ (net ++ (codes " place=" ++ decimal place))
+base_text (base.PinNetDiffers pin first second) = codes "eco: base PinNetDiffers pin=" ++ (pin ++ (codes " first=" ++ (first ++ (codes " second=" ++ second))))
+base_text (base.PatternOnSignal net pin) = codes "eco: base PatternOnSignal net=" ++ (net ++ (codes " pin=" ++ pin))
+base_text (base.SupplyDiffers net) = codes "eco: base SupplyDiffers net=" ++ net
+base_text (base.TieNotConstant net) = codes "eco: base TieNotConstant net=" ++ net
+base_text (base.TooMuchStock count) = codes "eco: base TooMuchStock count=" ++ decimal count
+base_text (base.Loop nets) = codes "eco: base Loop nets=" ++ names_text nets
+base_text base.Memory = codes "eco: memory"
 
 abbrev pub one_words : OneFault → List ℕ
 one_words one.NotSpare = codes "eco: apply NotSpare"
@@ -107,22 +117,25 @@ abbrev pub refusal_text : Refusal → List ℕ
 refusal_text (refused.Def fault) = codes "eco: def " ++ def_text fault
 refusal_text (refused.Move fault) = move_words fault
 refusal_text (refused.Base fault) = base_text fault
-refusal_text (refused.Gates fault) = gates_text fault
 refusal_text (refused.Apply fault) = one_words fault
 
 -- a line that ends with a number
 abbrev pub count_line : List ℕ → ℕ → List ℕ
 count_line head n = (head ++ decimal n) ++ 10 ∷ []
 
+-- how much a base has, a line for each number
 abbrev pub report_text : Report → List ℕ
 report_text r =
-    count_line (codes "masters ") r.masters
-    ++ (count_line (codes "components ") r.components
-    ++ (count_line (codes "pins ") r.pins
-    ++ (count_line (codes "statements ") r.statements
-    ++ count_line (codes "joints ") r.joints)))
+    count_line (codes "components ") r.census.components
+    ++ (count_line (codes "gates ") r.census.gates
+    ++ (count_line (codes "boxes ") r.census.boxes
+    ++ (count_line (codes "nets ") r.census.nets
+    ++ (count_line (codes "pins ") r.census.pins
+    ++ (count_line (codes "stock ") r.census.stock
+    ++ (count_line (codes "levels ") r.levels
+    ++ count_line (codes "skipped ") r.census.skipped))))))
 
--- how many bytes were written, or what the files have
+-- how many bytes were written, or what the base has
 abbrev pub done_text : Done → List ℕ
 done_text (done.Written n) = count_line (codes "written ") n
 done_text (done.Checked report) = report_text report

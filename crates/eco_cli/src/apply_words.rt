@@ -5,13 +5,19 @@ ghost use Rattle.eco_cli.specs.ApplyCommand.{apply_options, apply_of, AsksApply}
 ghost use Rattle.eco_cli.specs.CommandLine.{HasReading, listed_of};
 
 use crate::command_line::value;
-use crate::command_option::{CommandOption, DEF_LIMIT, FUNCTIONS_LIMIT, OptionKind};
+use crate::command_option::{
+    CommandOption, DEF_LIMIT, DESK_LIMIT, FUNCTIONS_LIMIT, LEF_LIMIT, OptionKind,
+};
 use crate::value_form::{feeds, items, table};
 use eco_embed::Feed;
 use eco_func::Table;
 use std::alloc::{AllocError, Global};
 
 static APPLY_OPTIONS: [CommandOption; 13] = [
+    CommandOption {
+        word: "--lef",
+        kind: OptionKind::Input { limit: LEF_LIMIT },
+    },
     CommandOption {
         word: "--def",
         kind: OptionKind::Input { limit: DEF_LIMIT },
@@ -23,12 +29,8 @@ static APPLY_OPTIONS: [CommandOption; 13] = [
         },
     },
     CommandOption {
-        word: "--high",
-        kind: OptionKind::Text,
-    },
-    CommandOption {
-        word: "--low",
-        kind: OptionKind::Text,
+        word: "--desk",
+        kind: OptionKind::Input { limit: DESK_LIMIT },
     },
     CommandOption {
         word: "--spare",
@@ -78,9 +80,6 @@ pub fn apply_options() -> &'static [CommandOption]
 /// A patch gate, the spare that it goes to, and the pin that is moved to its output.
 #[derive(Drop)]
 pub struct ApplyWords<'a> {
-    /// The tie nets.
-    pub high: &'a str,
-    pub low: &'a str,
     pub spare: &'a str,
     pub table: Table,
     /// The nets at the gate's inputs, in the order of a row's bits.
@@ -101,8 +100,6 @@ pub fn apply_words<'a>(alloc: Global, words: &'a [String]) -> Result<ApplyWords<
     ensures { IfOk result (λ a. AsksApply (map string_bytes words.now) (apply_of a)) }
 {
     Ok(ApplyWords {
-        high: value(words, "--high"),
-        low: value(words, "--low"),
         spare: value(words, "--spare"),
         table: table(value(words, "--table")),
         inputs: items(alloc, value(words, "--inputs"))?,

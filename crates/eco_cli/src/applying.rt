@@ -1,23 +1,26 @@
 //! The command `apply`.
 
-ghost use Rattle.std.specs.Prelude.{◌≡◌, ◌≤◌, length, map, string_bytes, [], ◌∷◌};
+ghost use Rattle.std.specs.Prelude.{◌≡◌, map, string_bytes};
 ghost use Rattle.eco_cli.specs.ApplyCommand.{apply_of, apply_options, ApplyGives, ApplyRefuses, GivesPatched, RefusesPatch};
+ghost use Rattle.eco_cli.specs.BaseTexts.{texts_in};
 ghost use Rattle.eco_cli.specs.CommandLine.{HasReading};
 ghost use Rattle.eco_cli.specs.Steps.{Plans};
 
 use crate::apply_words::{ApplyWords, apply_words};
+use crate::base_texts::BaseTexts;
 use crate::failure::Failure;
 use crate::issued::Issued;
+use crate::opened_base::opened;
 use crate::order::order_of;
 use crate::plan::Plan;
 use crate::refusal::Refusal;
-use eco_base::{GateBase, GateFault, OneFault, Overlay, apply_one, open_gates};
+use eco_base::{Base, OneFault, Overlay, apply_one};
 use std::alloc::Global;
 
 /// A base's text with this overlay of it.
-fn issued(base: GateBase, overlay: Overlay) -> Issued
-    ensures text { result.text.items ≡ base.text }
-    ensures design { result.design ≡ base.design }
+fn issued(base: Base, overlay: Overlay) -> Issued
+    ensures text { result.text.items ≡ base.texts.text }
+    ensures design { result.design ≡ base.texts.design }
     ensures overlay { result.overlay ≡ overlay }
 {
     let (text, design) = base.into_text_and_design();
@@ -29,22 +32,10 @@ fn issued(base: GateBase, overlay: Overlay) -> Issued
 }
 
 /// Opens the base, and puts the gate on its spare in it.
-fn patch(
-    alloc: Global,
-    def: Vec<u8>,
-    functions: Vec<u8>,
-    asked: &ApplyWords<'_>,
-) -> Result<Plan, Failure>
-    requires { length def.items ≤ 134217728 }
-    ensures { Plans (GivesPatched (apply_of asked.now) def.items functions.items) (RefusesPatch (apply_of asked.now) def.items functions.items) result }
+fn patch(alloc: Global, texts: BaseTexts, asked: &ApplyWords<'_>) -> Result<Plan, Failure>
+    ensures { Plans (GivesPatched (apply_of asked.now) texts.lef.items texts.def.items texts.functions.items texts.desk.items) (RefusesPatch (apply_of asked.now) texts.lef.items texts.def.items texts.functions.items texts.desk.items) result }
 {
-    let high = asked.high.as_bytes();
-    let low = asked.low.as_bytes();
-    let base = match open_gates(alloc, def, functions, high, low) {
-        Ok(base) => base,
-        Err(GateFault::Memory) => return Err(Failure::Memory),
-        Err(fault) => return Err(Failure::Refused(Refusal::Gates(fault))),
-    };
+    let base = opened(alloc, texts)?;
     let Ok(one) = order_of(alloc, asked) else {
         return Err(Failure::Memory);
     };
@@ -55,19 +46,13 @@ fn patch(
     }
 }
 
-/// Opens the base that the words ask for, and puts their gate on its spare in it.
-pub fn plan_apply(
-    alloc: Global,
-    def: Vec<u8>,
-    functions: Vec<u8>,
-    words: &[String],
-) -> Result<Plan, Failure>
-    requires short { length def.items ≤ 134217728 }
-    requires reading { HasReading apply_options (map string_bytes words.now) }
-    ensures { Plans (ApplyGives (map string_bytes words.now) (def.items ∷ functions.items ∷ [])) (ApplyRefuses (map string_bytes words.now) (def.items ∷ functions.items ∷ [])) result }
+/// Opens the base of the texts, and puts the gate that the words ask for on its spare in it.
+pub fn plan_apply(alloc: Global, texts: BaseTexts, words: &[String]) -> Result<Plan, Failure>
+    requires { HasReading apply_options (map string_bytes words.now) }
+    ensures { Plans (ApplyGives (map string_bytes words.now) (texts_in texts)) (ApplyRefuses (map string_bytes words.now) (texts_in texts)) result }
 {
     match apply_words(alloc, words) {
-        Ok(asked) => patch(alloc, def, functions, &asked),
+        Ok(asked) => patch(alloc, texts, &asked),
         Err(_) => Err(Failure::Memory),
     }
 }

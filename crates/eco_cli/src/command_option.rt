@@ -30,3 +30,6 @@ pub const DEF_LIMIT: u32 = 134_217_728;
 
 /// The most bytes of a functions file.
 pub const FUNCTIONS_LIMIT: u32 = 16_777_216;
+
+/// The most bytes of a desk file.
+pub const DESK_LIMIT: u32 = 1_048_576;

@@ -7,6 +7,6 @@ use crate::report::Report;
 pub enum Done {
     /// So many bytes were written to the output.
     Written(u64),
-    /// The files were read, and have so much.
+    /// The texts are those of a base, and this is its report.
     Checked(Report),
 }

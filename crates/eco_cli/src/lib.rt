@@ -3,7 +3,7 @@
 
 mod apply_words;
 mod applying;
-mod base_fault;
+mod base_texts;
 mod check_words;
 mod checking;
 mod command;
@@ -11,15 +11,18 @@ mod command_line;
 mod command_option;
 mod done;
 mod failure;
+mod four_texts;
 mod host;
 mod host_fault;
 mod input;
 mod issued;
 mod laid;
+mod line;
 mod memory;
 mod move_words;
 mod moving;
 mod open;
+mod opened_base;
 mod order;
 mod output;
 mod plan;
@@ -28,7 +31,7 @@ mod report;
 mod returned;
 mod running;
 mod telling;
-mod telling_gates;
+mod telling_base;
 mod texts;
 mod value_form;
 
@@ -36,6 +39,3 @@ pub use crate::host::Host;
 pub use crate::host_fault::{HostFault, Memory};
 pub use crate::memory::MemoryHost;
 pub use crate::running::run;
-
-#[cfg(test)]
-mod tests;

@@ -11,6 +11,7 @@ use crate::checking::plan_check;
 use crate::command::{Asked, Command};
 use crate::done::Done;
 use crate::failure::Failure;
+use crate::four_texts::base_texts;
 use crate::issued::Issued;
 use crate::move_words::move_words;
 use crate::moving::plan_move;
@@ -33,11 +34,13 @@ pub fn make_plan(alloc: Global, asked: &Asked<'_>, texts: Vec<Vec<u8>>) -> Resul
     requires within { AreWithin (inputs_in (options_of asked.now.command) (map string_bytes asked.now.values.now)) (map (λ t. t.items) texts.items) }
     ensures { Plans (Gives asked.now.command (map string_bytes asked.now.values.now) (map (λ t. t.items) texts.items)) (Refuses asked.now.command (map string_bytes asked.now.values.now) (map (λ t. t.items) texts.items)) result }
 {
-    let mut texts = texts;
     match asked.command {
-        Command::Move => plan_move(alloc, texts.remove(0), &move_words(asked.values)),
-        Command::Check => plan_check(alloc, texts.remove(0), texts.remove(0)),
-        Command::Apply => plan_apply(alloc, texts.remove(0), texts.remove(0), asked.values),
+        Command::Move => {
+            let mut texts = texts;
+            plan_move(alloc, texts.remove(0), &move_words(asked.values))
+        }
+        Command::Check => plan_check(alloc, base_texts(texts)),
+        Command::Apply => plan_apply(alloc, base_texts(texts), asked.values),
     }
 }
 

@@ -1,7 +1,6 @@
 //! Why the texts of the inputs, or what is asked in them, are refused.
 
-use crate::base_fault::BaseFault;
-use eco_base::{GateFault, MoveFault, OneFault};
+use eco_base::{BaseFault, MoveFault, OneFault};
 use eco_def::DefFault;
 
 /// Why a command refuses what it read.
@@ -11,10 +10,8 @@ pub enum Refusal {
     Def(DefFault),
     /// The move is refused.
     Move(MoveFault),
-    /// A file of the base is refused.
+    /// The texts are those of no base.
     Base(BaseFault),
-    /// The files give no base of gates.
-    Gates(GateFault),
     /// The order of one gate is refused.
     Apply(OneFault),
 }

@@ -1,41 +1,27 @@
-//! What a library and a design have, in numbers.
+//! What `check` tells of a base.
 
-ghost use Rattle.std.specs.Prelude.{◌≡◌, ◌<◌, ◌^◌, length, sum_by};
+ghost use Rattle.std.specs.Prelude.{IfOk};
+ghost use Rattle.eco_cli.specs.CheckCommand.{IsReportOf};
 
-use eco_def::{Design, NetStatement};
-use eco_lef::Library;
+use eco_base::Base;
+use eco_net::LoopFault;
+use eco_opening::Census;
+use std::alloc::Global;
 
-/// How many there are of each.
+/// The numbers of a base.
 #[derive(Clone, Copy, Debug, Drop, PartialEq, Eq)]
 pub struct Report {
-    /// The macros of a library.
-    pub masters: usize,
-    pub components: usize,
-    /// The pins of a design itself.
-    pub pins: usize,
-    /// The statements of SPECIALNETS and NETS.
-    pub statements: usize,
-    /// Their joints.
-    pub joints: usize,
+    /// How much it has.
+    pub census: Census,
+    /// The depth over all gates that aren't stock.
+    pub levels: u32,
 }
 
-fn joint_count(nets: &[NetStatement]) -> usize
-    requires { sum_by (λ s. length s.joints) nets.now < 2 ^ 64 }
-    ensures { result ≡ sum_by (λ s. length s.joints) nets.now }
+/// The report of a base. A base has no loop, so it fails for want of memory alone.
+pub fn report_on(alloc: Global, base: &Base) -> Result<Report, LoopFault>
+    ensures { IfOk result (IsReportOf base.now) }
 {
-    nets.iter().map(|net| net.joints.len()).sum()
-}
-
-/// The numbers of a library and a design.
-pub fn report_on(library: &Library, design: &Design) -> Report
-    requires { sum_by (λ s. length s.joints) design.now.nets < 2 ^ 64 }
-    ensures { result ≡ record { masters = length library.now; components = length design.now.comps; pins = length design.now.pins; statements = length design.now.nets; joints = sum_by (λ s. length s.joints) design.now.nets } }
-{
-    Report {
-        masters: library.masters().len(),
-        components: design.comps.len(),
-        pins: design.pins.len(),
-        statements: design.nets.len(),
-        joints: joint_count(design.nets.as_slice()),
-    }
+    let census = base.census();
+    let levels = base.netlist().levels(alloc)?.depth();
+    Ok(Report { census, levels })
 }

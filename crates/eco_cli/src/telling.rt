@@ -1,40 +1,31 @@
 //! What a command prints, and its status.
 
-ghost use Rattle.std.specs.Prelude.{◌≡◌, ◌≤◌, codes, decimal, ◌++◌, [], ◌∷◌};
-ghost use Rattle.std.specs.List.{flat_map};
-ghost use Rattle.eco_text.specs.Writing.{joined, Writes};
-ghost use Rattle.eco_cli.specs.Telling.{status_of, move_words, section_words, quote_place as place_of_quote, def_text, lef_text, base_text, refusal_text, failure_text, count_line, report_text, done_text, line_of, Tells};
+ghost use Rattle.std.specs.Prelude.{◌≡◌, ◌≤◌, ◌++◌, [], ◌∷◌};
+ghost use Rattle.eco_text.specs.Writing.{Writes};
+ghost use Rattle.eco_cli.specs.Telling.{status_of, move_words, one_words, refusal_text, failure_text, report_text, done_text, line_of, Tells};
 
-use crate::base_fault::BaseFault;
 use crate::done::Done;
 use crate::failure::Failure;
+use crate::line::print_number;
 use crate::refusal::Refusal;
 use crate::report::Report;
-use crate::telling_gates::{one_line, print_gates};
-use eco_base::MoveFault;
-use eco_def::{DefFault, Section};
-use eco_lef::LefFault;
-use eco_text::{Failed, Sink, TextFault, write_piece, write_pieces};
-use itoa::Buffer;
+use crate::telling_base::{print_base, print_def};
+use eco_base::{MoveFault, OneFault};
+use eco_text::{Failed, Sink, write_piece, write_pieces};
 
-/// A line that ends with a number.
-pub fn print_number<O: Sink>(head: &[u8], number: u64, out: &mut O) -> Result<(), Failed>
-    ensures { Writes O.taken O.faults out.old out.new result (count_line head.now number) }
-{
-    let mut buffer = Buffer::new();
-    let digits = buffer.format(number);
-    write_pieces(out, &[head, digits.as_bytes(), b"\n"])
-}
-
-/// The five lines of a report.
+/// The eight lines of a report.
 fn print_report<O: Sink>(report: &Report, out: &mut O) -> Result<(), Failed>
     ensures { Writes O.taken O.faults out.old out.new result (report_text report.now) }
 {
-    print_number(b"masters ", report.masters as u64, out)?;
-    print_number(b"components ", report.components as u64, out)?;
-    print_number(b"pins ", report.pins as u64, out)?;
-    print_number(b"statements ", report.statements as u64, out)?;
-    print_number(b"joints ", report.joints as u64, out)
+    let census = report.census;
+    print_number(b"components ", census.components, out)?;
+    print_number(b"gates ", census.gates, out)?;
+    print_number(b"boxes ", census.boxes, out)?;
+    print_number(b"nets ", census.nets, out)?;
+    print_number(b"pins ", census.pins, out)?;
+    print_number(b"stock ", census.stock, out)?;
+    print_number(b"levels ", u64::from(report.levels), out)?;
+    print_number(b"skipped ", census.skipped, out)
 }
 
 fn print_done<O: Sink>(done: &Done, out: &mut O) -> Result<(), Failed>
@@ -57,95 +48,15 @@ fn move_line(fault: MoveFault) -> &'static [u8]
     }
 }
 
-fn section_word(section: Section) -> &'static [u8]
-    ensures { result.now ≡ section_words section }
-{
-    match section {
-        Section::Units => b"UNITS",
-        Section::Components => b"COMPONENTS",
-        Section::Nets => b"NETS",
-    }
-}
-
-/// A line of three parts.
-pub fn print_parts<O: Sink>(
-    first: &[u8],
-    second: &[u8],
-    third: &[u8],
-    out: &mut O,
-) -> Result<(), Failed>
-    ensures { Writes O.taken O.faults out.old out.new result ((first.now ++ (second.now ++ third.now)) ++ 10 ∷ []) }
-{
-    write_pieces(out, &[first, second, third, b"\n"])
-}
-
-/// A line of a name and a place.
-fn print_place<O: Sink>(head: &[u8], name: &[u8], place: u32, out: &mut O) -> Result<(), Failed>
-    ensures { Writes O.taken O.faults out.old out.new result ((head.now ++ (name.now ++ decimal place)) ++ 10 ∷ []) }
-{
-    let mut buffer = Buffer::new();
-    let digits = buffer.format(place);
-    print_parts(head, name, digits.as_bytes(), out)
-}
-
-/// Where the quoted word begins that doesn't end.
-fn quote_place(fault: TextFault) -> u32
-    ensures { result ≡ place_of_quote fault }
+/// The line of a refused order.
+fn one_line(fault: OneFault) -> &'static [u8]
+    ensures { result.now ≡ one_words fault ++ 10 ∷ [] }
 {
     match fault {
-        TextFault::OpenQuote { place } => place,
-    }
-}
-
-/// The line of a DEF's fault, behind what it begins with.
-pub fn print_def<O: Sink>(head: &[u8], fault: DefFault, out: &mut O) -> Result<(), Failed>
-    ensures { Writes O.taken O.faults out.old out.new result ((head.now ++ def_text fault) ++ 10 ∷ []) }
-{
-    match fault {
-        DefFault::Text(fault) => {
-            print_place(head, b"Text OpenQuote place=", quote_place(fault), out)
-        }
-        DefFault::UnknownHeading { place } => {
-            print_place(head, b"UnknownHeading place=", place, out)
-        }
-        DefFault::Unended { place } => print_place(head, b"Unended place=", place, out),
-        DefFault::BadStatement { place } => print_place(head, b"BadStatement place=", place, out),
-        DefFault::TwiceNamed { place } => print_place(head, b"TwiceNamed place=", place, out),
-        DefFault::MustJoin { place } => print_place(head, b"MustJoin place=", place, out),
-        DefFault::Limit { place } => print_place(head, b"Limit place=", place, out),
-        DefFault::Missing { which } => {
-            print_parts(head, b"Missing which=", section_word(which), out)
-        }
-        DefFault::Memory => print_parts(head, b"memory", b"", out),
-    }
-}
-
-/// The line of a LEF's fault.
-fn print_lef<O: Sink>(fault: &LefFault, out: &mut O) -> Result<(), Failed>
-    ensures { Writes O.taken O.faults out.old out.new result ((codes "eco: base Lef " ++ lef_text fault.now) ++ 10 ∷ []) }
-{
-    let head = b"eco: base Lef ";
-    match fault {
-        LefFault::Text(fault) => {
-            print_place(head, b"Text OpenQuote place=", quote_place(*fault), out)
-        }
-        LefFault::Unended { name } => print_parts(head, b"Unended name=", name.bytes(), out),
-        LefFault::TwiceNamed { place } => print_place(head, b"TwiceNamed place=", *place, out),
-        LefFault::TooManyMasters { place } => {
-            print_place(head, b"TooManyMasters place=", *place, out)
-        }
-        LefFault::ArrayBlock { place } => print_place(head, b"ArrayBlock place=", *place, out),
-        LefFault::BadStatement { place } => print_place(head, b"BadStatement place=", *place, out),
-        LefFault::Memory => print_parts(head, b"memory", b"", out),
-    }
-}
-
-fn print_base<O: Sink>(fault: &BaseFault, out: &mut O) -> Result<(), Failed>
-    ensures { Writes O.taken O.faults out.old out.new result (base_text fault.now ++ 10 ∷ []) }
-{
-    match fault {
-        BaseFault::Lef(fault) => print_lef(fault, out),
-        BaseFault::Def(fault) => print_def(b"eco: base Def ", *fault, out),
+        OneFault::NotSpare => b"eco: apply NotSpare\n",
+        OneFault::BadOrder => b"eco: apply BadOrder\n",
+        OneFault::NotEmbedding => b"eco: apply NotEmbedding\n",
+        OneFault::Memory => b"eco: memory\n",
     }
 }
 
@@ -156,7 +67,6 @@ fn print_refusal<O: Sink>(refusal: &Refusal, out: &mut O) -> Result<(), Failed>
         Refusal::Def(fault) => print_def(b"eco: def ", *fault, out),
         Refusal::Move(fault) => write_piece(move_line(*fault), out),
         Refusal::Base(fault) => print_base(fault, out),
-        Refusal::Gates(fault) => print_gates(fault, out),
         Refusal::Apply(fault) => write_piece(one_line(*fault), out),
     }
 }

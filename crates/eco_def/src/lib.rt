@@ -24,6 +24,3 @@ pub use crate::fault::{DefFault, Section};
 pub use crate::orient::Orient;
 pub use crate::place::Place;
 pub use crate::read::{faults_stay, limits_keep, read_def};
-
-#[cfg(test)]
-mod tests;

@@ -66,7 +66,8 @@ impl<'a> Reader<'a> {
             let joint = self.next_joint(joints.len() < room)?;
             joints.push(joint)?;
         }
-        Ok(joints)
+        // A copy has no room to spare, and there are a million nets.
+        Ok(Items::from_slice(alloc, joints.as_slice())?)
     }
 
     #[tactic(auto, unfolding(crate::specs::Grammar::some_use))]

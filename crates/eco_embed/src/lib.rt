@@ -21,6 +21,3 @@ pub use crate::insertion::embed;
 pub fn serves_all_bits()
     ensures { ServesAllBits }
 {}
-
-#[cfg(test)]
-mod tests;

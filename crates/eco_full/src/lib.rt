@@ -23,6 +23,3 @@ pub use crate::listing::{list_design, list_numbered};
 pub use crate::macros::Macros;
 pub use crate::supplies::first_two_valued;
 pub use crate::words::{bytes_at, is_no_component};
-
-#[cfg(test)]
-mod tests;

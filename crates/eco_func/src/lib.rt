@@ -49,6 +49,3 @@ pub fn characters_are_rows()
 pub fn tables_are_values()
     ensures { TablesAreValues }
 {}
-
-#[cfg(test)]
-mod tests;

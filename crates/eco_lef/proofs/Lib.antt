@@ -5,4 +5,5 @@ pub mod Passing
 pub mod Saying
 pub mod Limits
 pub mod Distinct
+pub mod WordNames
 mod Examples

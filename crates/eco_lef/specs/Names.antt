@@ -1,7 +1,9 @@
--- A law of names in a library.
-use Rattle.std.specs.Prelude.{◌≡◌, ℕ, false, List, [], ◌∷◌, Ok}
+-- Laws of names in a library.
+use Rattle.std.specs.Prelude.{◌≡◌, ℕ, ◌==◌, ◌&&◌, ◌||◌, not, Bool, true, false, List, [], ◌∷◌, Ok}
+use Rattle.std.specs.List.{list_all}
+use Rattle.eco_text.specs.Words.{plain_word}
 use Rattle.eco_lef.specs.declared.master.Master.{Master}
-use Rattle.eco_lef.specs.Parsing.{is_among}
+use Rattle.eco_lef.specs.Parsing.{is_among, is_name}
 use Rattle.eco_lef.specs.Known.{names_of, pin_names}
 use Rattle.eco_lef.specs.Grammar.{library_of}
 
@@ -22,3 +24,17 @@ HaveOwnNames masters = AreDistinct (names_of masters) × HaveDistinctPins master
 -- In a library no two masters have one name, and no two pins of a master.
 abbrev pub NamesDiffer : Type 0
 NamesDiffer = (text : List ℕ) (masters : List Master) → library_of text ≡ Ok masters → HaveOwnNames masters
+
+-- Bytes that are read as a name where they stand as a word: they have a name's form, and neither a comment nor a quoted word
+-- begins with them.
+abbrev pub can_name : List ℕ → Bool
+can_name [] = false
+can_name (b ∷ bs) = not (b == 35 || b == 34) && is_name (plain_word 0 (b ∷ bs) 0)
+
+-- a master's name and its pins' names are read as names where they stand
+abbrev pub are_words : Master → Bool
+are_words m = can_name m.name && list_all (λ p. can_name p.name) m.pins
+
+-- In a library all names are such words, so that a text can have them as names.
+abbrev pub NamesAreWords : Type 0
+NamesAreWords = (text : List ℕ) (masters : List Master) → library_of text ≡ Ok masters → list_all are_words masters ≡ true

@@ -16,7 +16,7 @@ pub enum LefFault {
     #[error("Text {0}")]
     Text(TextFault),
     /// The text ends within a block of this name. Outside named blocks it is the first word of the block or statement.
-    #[error("Unended")]
+    #[error("Unended name={name}")]
     Unended { name: Name },
     /// A macro's name stands a second time, or a pin's name in one macro.
     #[error("TwiceNamed place={place}")]

@@ -2,7 +2,7 @@
 #![tactic(auto)]
 
 ghost use Rattle.eco_lef.specs.Limits.{LimitsKeep};
-ghost use Rattle.eco_lef.specs.Names.{NamesDiffer};
+ghost use Rattle.eco_lef.specs.Names.{NamesDiffer, NamesAreWords};
 
 mod blocks;
 mod fault;
@@ -33,5 +33,7 @@ pub fn names_stand_once()
     ensures { NamesDiffer }
 {}
 
-#[cfg(test)]
-mod tests;
+/// A law of names: each name of a master and of a pin is a word that a text can have as a name.
+pub fn names_are_words()
+    ensures { NamesAreWords }
+{}

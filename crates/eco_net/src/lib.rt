@@ -38,6 +38,3 @@ pub use crate::levels::{Levels, LoopFault, Names};
 pub use crate::maker::NetlistMaker;
 pub use crate::netlist::{Netlist, PinName};
 pub use crate::rows::{CompRow, NetRow, TopRow};
-
-#[cfg(test)]
-mod tests;

@@ -20,6 +20,3 @@ pub use crate::fault::BaseFault;
 pub use crate::free_stock::FreeStock;
 pub use crate::laws::open_is_base;
 pub use crate::opening::open_base;
-
-#[cfg(test)]
-mod tests;

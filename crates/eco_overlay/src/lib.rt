@@ -24,6 +24,3 @@ pub use crate::moving::move_joint;
 pub use crate::new_joint::NewJoint;
 pub use crate::overlay::Overlay;
 pub use crate::writer::{emit, emit_len};
-
-#[cfg(test)]
-mod tests;

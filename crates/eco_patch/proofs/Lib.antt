@@ -14,8 +14,6 @@ pub mod Patches
 pub mod Taking
 pub mod Lighter
 pub mod Beside
-pub mod LoneStock
-pub mod OfStock
 pub mod Alone
 pub mod Relabel
 pub mod Fold

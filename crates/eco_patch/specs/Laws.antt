@@ -5,7 +5,7 @@ use Rattle.std.specs.List.{Contains, IsDistinct, zip}
 use Rattle.std.specs.Ordering.{eq_by_cmp}
 use Rattle.std.specs.FinMap.{get}
 use Rattle.eco_text.specs.declared.geometry.Point.{Point}
-use Rattle.eco_net.specs.Netlist.{Name, name_cmp, Netlist, Component, Computes, role_of, Pin, CompPin, IsPin}
+use Rattle.eco_net.specs.Netlist.{Name, name_cmp, Netlist, Component, Computes, role_of, Pin, CompPin}
 use Rattle.eco_net.specs.Drivers.{Computed, net_of}
 use Rattle.eco_net.specs.CutKeys.{CutBits}
 use Rattle.eco_net.specs.Valuation.{Valuation, IsValuation}
@@ -14,13 +14,12 @@ use Rattle.eco_patch.specs.Orders.{PatchGate, Move, Order, Placement}
 use Rattle.eco_patch.specs.Joints.{Joint, with_joints, frame, first_each, Takes}
 use Rattle.eco_patch.specs.Insertion.{inserted}
 use Rattle.eco_patch.specs.Realisation.{feed_net, patch_joints, realised}
-use Rattle.eco_patch.specs.Bases.{Base, IsBase, IsSpare, IsWithout, bare}
+use Rattle.eco_patch.specs.Bases.{Base, IsBase, IsWithout, bare}
 use Rattle.eco_patch.specs.Rules.{NoneStandsTwice, PinsAreKnown}
 use Rattle.eco_patch.specs.Mappings.{spares_of}
 use Rattle.eco_patch.specs.Patches.{IsPatch}
 use Rattle.eco_patch.specs.Meaning.{SameMeaning}
-use Rattle.eco_patch.specs.Lone.{lone_base, lone_order, IsSupplied, IsLone}
-use Rattle.eco_patch.specs.LoneOfStock.{IsLoneOf}
+use Rattle.eco_patch.specs.Lone.{lone_order, IsLone}
 use Rattle.eco_patch.specs.Live.{Commit, AreLive, live_joints, live_nets, abstract, concrete}
 
 -- ---- pins put on nets
@@ -50,16 +49,10 @@ OtherNetsStay = (N : Netlist) (joints : List Joint) (nets : List Name) (n : Name
 
 -- ---- one order
 
--- one gate on a new net, which one input pin goes to, is a patch
+-- one gate on a new net, which one input pin goes to, on a spare of the stock, is a patch
 abbrev pub LoneIsPatch : Type 0
 LoneIsPatch =
-    (full : Netlist) (low high label : Name) (place : Name → Option Point) (gate : PatchGate) (move : Move) (p : Placement) → IsLone full low high label place gate move p
-    → IsPatch (lone_base full low high p.spare) label place (lone_order gate move) (p ∷ [])
-
--- so it is on a spare of any base's stock
-abbrev pub LoneOfStockIsPatch : Type 0
-LoneOfStockIsPatch =
-    (base : Base) (label : Name) (place : Name → Option Point) (gate : PatchGate) (move : Move) (p : Placement) → IsLoneOf base label place gate move p
+    (base : Base) (label : Name) (place : Name → Option Point) (gate : PatchGate) (move : Move) (p : Placement) → IsLone base label place gate move p
     → IsPatch base label place (lone_order gate move) (p ∷ [])
 
 -- a map from nets to bits is a valuation of the netlist with the gates exactly where it is one of the netlist with the spares
@@ -111,13 +104,6 @@ abbrev pub StockIsBeside : Type 0
 StockIsBeside =
     (base : Base) (label : Name) (place : Name → Option Point) (order : Order) → IsBase base → NoneStandsTwice order → PinsAreKnown (bare base) order
     → IsWithout (inserted label place base.full order) (inserted label place (bare base) order)
-
--- one spare stands beside one inserted gate, whatever becomes of it, and drives nothing
-abbrev pub LoneIsBeside : Type 0
-LoneIsBeside =
-    (full : Netlist) (low high label : Name) (place : Name → Option Point) (gate : PatchGate) (move : Move) (spare : Name) (x y : Component)
-    → IsSupplied full low high → get full.comps spare ≡ Some x → IsSpare x → get full.comps move.comp ≡ Some y → IsPin y move.pin → move.comp ≢ spare
-    → IsWithout (inserted label place full (lone_order gate move)) (inserted label place (bare (lone_base full low high spare)) (lone_order gate move))
 
 -- the joints that realise a patch are ones that the base can take
 abbrev pub BaseTakesJoints : Type 0

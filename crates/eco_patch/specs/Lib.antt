@@ -10,5 +10,4 @@ pub mod Patches
 pub mod Meaning
 pub mod Live
 pub mod Lone
-pub mod LoneOfStock
 pub mod Laws

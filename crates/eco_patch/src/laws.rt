@@ -1,4 +1,4 @@
-ghost use Rattle.eco_patch.specs.Laws.{BaseTakesJoints, BaseTakesLive, ComponentsStay, FirstCounts, FreeStockRests, GatesCompute, JointsJoin, LiveJoints, LiveMeansSame, LiveNetsAreNew, LoneIsBeside, LoneIsPatch, LoneOfStockIsPatch, MovesArrive, NetsJoin, NothingLive, OtherNetsStay, OtherPinsStay, OthersRemain, PatchMeansSame, SameBesideStock, SameValuations, SparesCompute, StockIsBeside, WithIsLoopFree, WithoutComputesSame, WithoutIsLoopFree};
+ghost use Rattle.eco_patch.specs.Laws.{BaseTakesJoints, BaseTakesLive, ComponentsStay, FirstCounts, FreeStockRests, GatesCompute, JointsJoin, LiveJoints, LiveMeansSame, LiveNetsAreNew, LoneIsPatch, MovesArrive, NetsJoin, NothingLive, OtherNetsStay, OtherPinsStay, OthersRemain, PatchMeansSame, SameBesideStock, SameValuations, SparesCompute, StockIsBeside, WithIsLoopFree, WithoutComputesSame, WithoutIsLoopFree};
 
 /// A law: joints put their pins on their nets, of two joints of one pin the first, and leave all other pins, each component's
 /// kind and place, and all nets but the new ones as they were.
@@ -38,11 +38,10 @@ pub fn outputs_are_computed()
     ensures spares { SparesCompute }
 {}
 
-/// A law: one gate on a new net, which one input pin goes to, with its embedding in one spare, is an order that the laws above
-/// speak of, also on a spare of any base's stock.
+/// A law: one gate on a new net, which one input pin goes to, with its embedding in one spare of the stock, is an order that
+/// the laws above speak of.
 pub fn lone_is_patch()
-    ensures lone { LoneIsPatch }
-    ensures stock { LoneOfStockIsPatch }
+    ensures { LoneIsPatch }
 {}
 
 /// A law: the joints that realise an order are ones that the base can take: each is of another pin, its component has the pin,
@@ -69,11 +68,10 @@ pub fn live_joints_join()
 {}
 
 /// A law: taking away components that drive nothing makes no loop, takes none away and changes no valuation. The stock
-/// beside an order's inserted gates are such components, and so is one spare beside one gate.
+/// beside an order's inserted gates are such components.
 pub fn without_means_same()
     ensures loops { WithoutIsLoopFree }
     ensures loops_with { WithIsLoopFree }
     ensures valuations { WithoutComputesSame }
     ensures stock { StockIsBeside }
-    ensures lone { LoneIsBeside }
 {}

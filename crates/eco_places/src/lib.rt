@@ -26,6 +26,3 @@ pub use crate::pattern::find_pattern;
 pub use crate::tops::tops_agree;
 pub use crate::two_nets::find_two_nets;
 pub use crate::unknown::find_unknown_pin;
-
-#[cfg(test)]
-mod tests;

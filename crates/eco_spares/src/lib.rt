@@ -12,6 +12,3 @@ mod read;
 pub use crate::desk::DeskFile;
 pub use crate::fault::DeskFault;
 pub use crate::read::read_desk;
-
-#[cfg(test)]
-mod tests;

@@ -33,6 +33,3 @@ pub use crate::words::Words;
 pub fn words_of_two_parts()
     ensures { Splices }
 {}
-
-#[cfg(test)]
-mod tests;

@@ -4,6 +4,37 @@ use crate::{
 use std::alloc::Global;
 use std::test::Fail;
 
+/// The next request. The tests need nothing of its contract.
+fn next(bytes: &[u8]) -> Next {
+    next_request(bytes)
+}
+
+fn routed(
+    alloc: Global,
+    router: &Router,
+    method: Method,
+    path: &[u8],
+) -> Result<Route, RouteFault> {
+    router.route(alloc, &method, path)
+}
+
+/// The head of a reply whose status has a phrase.
+fn head(
+    alloc: Global,
+    status: u16,
+    kind: BodyKind,
+    len: u64,
+    close: bool,
+) -> Result<Vec<u8>, Fail> {
+    match status {
+        200 | 400 | 404 | 409 | 411 | 413 | 422 | 431 | 500 | 501 | 503 => {
+            Ok(reply_head(alloc, status, kind, len, None, close)?)
+        }
+        405 => Ok(reply_head(alloc, 405, kind, len, Some("GET"), close)?),
+        _ => Err("no such status".into()),
+    }
+}
+
 /// A request with its path and body at these places, each with its length.
 fn found(method: Method, path: (usize, usize), body: (u16, u16), close: bool) -> Next {
     let (start, len) = (usize::from(body.0), usize::from(body.1));
@@ -84,10 +115,7 @@ const REQUESTS: [(&str, Method, (usize, usize), (u16, u16), bool); 10] = [
 #[test]
 fn requests_with_method_path_body_and_close(rt: HostRuntime) -> Result<(), Fail> {
     for (text, method, path, body, close) in REQUESTS {
-        assert_eq!(rt;
-            next_request(text.as_bytes()),
-            found(method, path, body, close)
-        );
+        assert_eq!(rt; next(text.as_bytes()), found(method, path, body, close));
     }
     Ok(())
 }
@@ -126,7 +154,7 @@ fn broken_requests_have_the_status_of_the_first_step(rt: HostRuntime) -> Result<
         (b" GET / HTTP/1.1\r\n\r\n", 400),
     ];
     for (bytes, status) in cases {
-        assert_eq!(rt; next_request(bytes), Next::Broken { status });
+        assert_eq!(rt; next(bytes), Next::Broken { status });
     }
     Ok(())
 }
@@ -145,26 +173,26 @@ fn with_lines(alloc: Global, lines: u32) -> Result<String, Fail> {
 fn heads_end_at_64_lines_and_16384_bytes(rt: HostRuntime) -> Result<(), Fail> {
     let mut text = with_lines(rt.alloc(), 64)?;
     text.push_str("a:")?;
-    assert_eq!(rt; next_request(text.as_bytes()), Next::NeedMore);
+    assert_eq!(rt; next(text.as_bytes()), Next::NeedMore);
     let mut text = with_lines(rt.alloc(), 64)?;
     text.push_str("\r\n")?;
     assert_eq!(rt;
-        next_request(text.as_bytes()),
+        next(text.as_bytes()),
         found(Method::Get, (4, 1), (402, 0), false)
     );
     let text = with_lines(rt.alloc(), 65)?;
-    assert_eq!(rt; next_request(text.as_bytes()), Next::Broken { status: 431 });
+    assert_eq!(rt; next(text.as_bytes()), Next::Broken { status: 431 });
 
     let mut text = String::new(rt.alloc());
     text.push_str("GET /")?;
     for _ in 0..16_378 {
         text.push('a')?;
     }
-    assert_eq!(rt; next_request(text.as_bytes()), Next::NeedMore);
+    assert_eq!(rt; next(text.as_bytes()), Next::NeedMore);
     text.push('a')?;
-    assert_eq!(rt; next_request(text.as_bytes()), Next::Broken { status: 431 });
+    assert_eq!(rt; next(text.as_bytes()), Next::Broken { status: 431 });
     text.push_str(" HTTP/1.1\r\n\r\n")?;
-    assert_eq!(rt; next_request(text.as_bytes()), Next::Broken { status: 431 });
+    assert_eq!(rt; next(text.as_bytes()), Next::Broken { status: 431 });
     Ok(())
 }
 
@@ -175,14 +203,14 @@ fn a_request_comes_with_its_last_byte_and_stays_with_more(rt: HostRuntime) -> Re
         let Some(front) = text.as_bytes().get(..end) else {
             continue;
         };
-        assert_eq!(rt; next_request(front), Next::NeedMore);
+        assert_eq!(rt; next(front), Next::NeedMore);
     }
     let wanted = found(Method::Post, (5, 5), (42, 4), false);
-    assert_eq!(rt; next_request(text.as_bytes()), wanted);
+    assert_eq!(rt; next(text.as_bytes()), wanted);
     let mut longer = String::new(rt.alloc());
     longer.push_str(text)?;
     longer.push_str("GET / HTTP/1.1\r\n\r\n")?;
-    assert_eq!(rt; next_request(longer.as_bytes()), wanted);
+    assert_eq!(rt; next(longer.as_bytes()), wanted);
     Ok(())
 }
 
@@ -242,134 +270,109 @@ const NO_PATHS: [(Method, &[u8]); 14] = [
 fn paths_have_the_routes_of_the_table(rt: HostRuntime) -> Result<(), Fail> {
     let router = Router::new(rt.alloc())?;
     for (method, path, route) in ROUTES {
-        assert_eq!(rt; router.route(rt.alloc(), &method, path), Ok(route));
+        assert_eq!(rt; routed(rt.alloc(), &router, method, path), Ok(route));
     }
     for (method, path, allow) in WRONG_METHODS {
         let wrong = RouteFault::WrongMethod { allow };
-        assert_eq!(rt; router.route(rt.alloc(), &method, path), Err(wrong));
+        assert_eq!(rt; routed(rt.alloc(), &router, method, path), Err(wrong));
     }
     for (method, path) in NO_PATHS {
         assert_eq!(rt;
-            router.route(rt.alloc(), &method, path),
+            routed(rt.alloc(), &router, method, path),
             Err(RouteFault::NoPath)
         );
     }
     Ok(())
 }
 
+// A status, what the body is, its length, whether the link closes, and the head.
+const HEADS: [(u16, BodyKind, u64, bool, &str); 13] = [
+    (
+        200,
+        BodyKind::Json,
+        11,
+        false,
+        "HTTP/1.1 200 OK\r\nContent-Type: application/json\r\nContent-Length: 11\r\n\r\n",
+    ),
+    (
+        200,
+        BodyKind::Plain,
+        u64::MAX,
+        true,
+        "HTTP/1.1 200 OK\r\nContent-Type: text/plain\r\nContent-Length: 18446744073709551615\r\nConnection: close\r\n\r\n",
+    ),
+    (
+        405,
+        BodyKind::Json,
+        13,
+        false,
+        "HTTP/1.1 405 Method Not Allowed\r\nContent-Type: application/json\r\nContent-Length: 13\r\nAllow: GET\r\n\r\n",
+    ),
+    (
+        400,
+        BodyKind::Json,
+        0,
+        false,
+        "HTTP/1.1 400 Bad Request\r\n",
+    ),
+    (404, BodyKind::Json, 0, false, "HTTP/1.1 404 Not Found\r\n"),
+    (409, BodyKind::Json, 0, false, "HTTP/1.1 409 Conflict\r\n"),
+    (
+        411,
+        BodyKind::Json,
+        0,
+        false,
+        "HTTP/1.1 411 Length Required\r\n",
+    ),
+    (
+        413,
+        BodyKind::Json,
+        0,
+        false,
+        "HTTP/1.1 413 Content Too Large\r\n",
+    ),
+    (
+        422,
+        BodyKind::Json,
+        0,
+        false,
+        "HTTP/1.1 422 Unprocessable Content\r\n",
+    ),
+    (
+        431,
+        BodyKind::Json,
+        0,
+        false,
+        "HTTP/1.1 431 Request Header Fields Too Large\r\n",
+    ),
+    (
+        500,
+        BodyKind::Json,
+        0,
+        false,
+        "HTTP/1.1 500 Internal Server Error\r\n",
+    ),
+    (
+        501,
+        BodyKind::Json,
+        0,
+        false,
+        "HTTP/1.1 501 Not Implemented\r\n",
+    ),
+    (
+        503,
+        BodyKind::Json,
+        0,
+        false,
+        "HTTP/1.1 503 Service Unavailable\r\n",
+    ),
+];
+
 #[test]
 fn reply_heads_have_status_type_length_allow_and_close(rt: HostRuntime) -> Result<(), Fail> {
-    let alloc = rt.alloc();
-    let front = reply_head(alloc, 200, BodyKind::Json, 11, None, false)?;
-    assert_eq!(rt;
-        front.as_slice(),
-        b"HTTP/1.1 200 OK\r\nContent-Type: application/json\r\nContent-Length: 11\r\n\r\n".as_slice()
-    );
-    let last = reply_head(alloc, 200, BodyKind::Plain, u64::MAX, None, true)?;
-    assert_eq!(rt;
-        last.as_slice(),
-        b"HTTP/1.1 200 OK\r\nContent-Type: text/plain\r\nContent-Length: 18446744073709551615\r\nConnection: close\r\n\r\n".as_slice()
-    );
-    let wrong = reply_head(alloc, 405, BodyKind::Json, 13, Some("GET"), false)?;
-    assert_eq!(rt;
-        wrong.as_slice(),
-        b"HTTP/1.1 405 Method Not Allowed\r\nContent-Type: application/json\r\nContent-Length: 13\r\nAllow: GET\r\n\r\n".as_slice()
-    );
-    Ok(())
-}
-
-#[test]
-fn statuses_of_refused_calls_have_their_phrases(rt: HostRuntime) -> Result<(), Fail> {
-    let alloc = rt.alloc();
-    let cases = [
-        (
-            reply_head(alloc, 400, BodyKind::Json, 0, None, false)?,
-            "HTTP/1.1 400 Bad Request\r\n",
-        ),
-        (
-            reply_head(alloc, 404, BodyKind::Json, 0, None, false)?,
-            "HTTP/1.1 404 Not Found\r\n",
-        ),
-        (
-            reply_head(alloc, 409, BodyKind::Json, 0, None, false)?,
-            "HTTP/1.1 409 Conflict\r\n",
-        ),
-    ];
-    for (head, wanted) in &cases {
-        assert!(rt; head.starts_with(wanted.as_bytes()));
+    for (status, kind, len, close, wanted) in HEADS {
+        let head = head(rt.alloc(), status, kind, len, close)?;
+        assert!(rt; head.starts_with(wanted.as_bytes()), "at {status}");
     }
-    Ok(())
-}
-
-#[test]
-fn statuses_of_broken_and_unserved_requests_have_their_phrases(
-    rt: HostRuntime,
-) -> Result<(), Fail> {
-    let alloc = rt.alloc();
-    let cases = [
-        (
-            reply_head(alloc, 411, BodyKind::Json, 0, None, false)?,
-            "HTTP/1.1 411 Length Required\r\n",
-        ),
-        (
-            reply_head(alloc, 413, BodyKind::Json, 0, None, false)?,
-            "HTTP/1.1 413 Content Too Large\r\n",
-        ),
-        (
-            reply_head(alloc, 422, BodyKind::Json, 0, None, false)?,
-            "HTTP/1.1 422 Unprocessable Content\r\n",
-        ),
-        (
-            reply_head(alloc, 431, BodyKind::Json, 0, None, false)?,
-            "HTTP/1.1 431 Request Header Fields Too Large\r\n",
-        ),
-        (
-            reply_head(alloc, 500, BodyKind::Json, 0, None, false)?,
-            "HTTP/1.1 500 Internal Server Error\r\n",
-        ),
-        (
-            reply_head(alloc, 501, BodyKind::Json, 0, None, false)?,
-            "HTTP/1.1 501 Not Implemented\r\n",
-        ),
-        (
-            reply_head(alloc, 503, BodyKind::Json, 0, None, false)?,
-            "HTTP/1.1 503 Service Unavailable\r\n",
-        ),
-    ];
-    for (head, wanted) in &cases {
-        assert!(rt; head.starts_with(wanted.as_bytes()));
-    }
-    Ok(())
-}
-
-#[test]
-fn a_request_for_the_front_is_routed_and_answered(rt: HostRuntime) -> Result<(), Fail> {
-    let bytes: &[u8] = b"GET /front HTTP/1.1\r\nHost: eco\r\n\r\n";
-    let Next::Request(request) = next_request(bytes) else {
-        assert!(rt; false);
-        return Ok(());
-    };
-    let end = request.path.start + request.path.len;
-    let Some(path) = bytes.get(request.path.start..end) else {
-        assert!(rt; false);
-        return Ok(());
-    };
-    assert_eq!(rt; path, b"/front".as_slice());
-    let router = Router::new(rt.alloc())?;
-    assert_eq!(rt;
-        router.route(rt.alloc(), &request.method, path),
-        Ok(Route::Front)
-    );
-    assert_eq!(rt;
-        router.route(rt.alloc(), &Method::Get, b"/none"),
-        Err(RouteFault::NoPath)
-    );
-    let wrong = RouteFault::WrongMethod { allow: Method::Get };
-    assert_eq!(rt; router.route(rt.alloc(), &Method::Post, path), Err(wrong));
-    let head = reply_head(rt.alloc(), 200, BodyKind::Json, 11, None, request.close)?;
-    assert_eq!(rt;
-        head.as_slice(),
-        b"HTTP/1.1 200 OK\r\nContent-Type: application/json\r\nContent-Length: 11\r\n\r\n".as_slice()
-    );
     Ok(())
 }

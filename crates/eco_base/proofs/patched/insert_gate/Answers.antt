@@ -8,8 +8,8 @@ use Rattle.eco_net.specs.Netlist.{IsNet}
 use Rattle.eco_net.specs.Listing.{Listing, netlist, pin_named, IsKnownPin, with_joint}
 use Rattle.eco_net.specs.declared.ids.PinRef.TheVariants.{Pin}
 use Rattle.eco_net.proofs.Basics.{contains_from_has}
+use Rattle.eco_net.proofs.GateNames.{has_at}
 use Rattle.eco_patch.specs.Insertion.{input_pins}
-use Rattle.eco_base.proofs.GatePins.{at_has}
 use Rattle.eco_base.proofs.PatchPins.{IsPatching, patch_kind, input_known, output_known, input_more, its_net, patch_ends, pins_count}
 use Rattle.eco_base.proofs.patched.insert_gate.Goals as goal
 
@@ -23,7 +23,7 @@ put_on-requires-clause-net c =
     let at : slice_get c.args.one.now.inputs.items c.loop-place.place ≡ Some c.index-inputs-place.result = sym (ap (λ ns. slice_get ns c.loop-place.place) c.as_slice-inputs.ensures.value) ∙ slice_get_read c.as_slice-inputs.result.now (length c.as_slice-inputs.result.now) c.loop-place.place c.index-inputs-place.result refl c.loop-place-test.true c.index-inputs-place.is in
     subst (IsNet (netlist c.loop-place.maker)) (sym c.bytes.ensures)
     (its_net (netlist c.args.maker.now) c.loop-place.maker c.in_ok-gate.gate (patch_kind c.args.one.now.table) (take c.loop-place.place (input_pins c.args.one.now.inputs.items)) c.index-inputs-place.result c.loop-place.invariant
-    (c.requires.inputs c.index-inputs-place.result (contains_from_has c.args.one.now.inputs.items c.index-inputs-place.result (at_has c.args.one.now.inputs.items c.index-inputs-place.result c.loop-place.place at))))
+    (c.requires.inputs c.index-inputs-place.result (contains_from_has c.args.one.now.inputs.items c.index-inputs-place.result (has_at c.args.one.now.inputs.items c.loop-place.place c.index-inputs-place.result at))))
 
 pub loop-place-preserved : goal.loop-place-preserved
 loop-place-preserved c =

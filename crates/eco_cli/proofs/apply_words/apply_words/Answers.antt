@@ -9,7 +9,7 @@ none_listed : Listed
 none_listed = record { word = []; kind = kind.Text }
 
 pub table-requires : goal.table-requires
-table-requires c = rw c.value-4.ensures (has_its_form apply_options (map string_bytes c.args.words.now) 5 none_listed (lit< tt) c.requires)
+table-requires c = rw c.value-2.ensures (has_its_form apply_options (map string_bytes c.args.words.now) 5 none_listed (lit< tt) c.requires)
 
 pub feeds-requires : goal.feeds-requires
-feeds-requires c = rw c.value-6.ensures (has_its_form apply_options (map string_bytes c.args.words.now) 7 none_listed (lit< tt) c.requires)
+feeds-requires c = rw c.value-4.ensures (has_its_form apply_options (map string_bytes c.args.words.now) 7 none_listed (lit< tt) c.requires)

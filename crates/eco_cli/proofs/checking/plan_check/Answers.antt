@@ -1,26 +1,14 @@
-use Rattle.std.proofs.Common.{refl, ◌∙◌}
-use Rattle.eco_def.specs.View.{design_in}
-use Rattle.eco_cli.proofs.Counting.{joints_fit, report_is}
+use Rattle.std.proofs.Common.{refl}
+use Rattle.std.proofs.lemmas.Result.{err_from_is_err_and}
+use Rattle.eco_cli.specs.BaseTexts.{texts_in}
+use Rattle.eco_cli.specs.CheckCommand.{CheckGives, CheckRefuses}
+use Rattle.eco_cli.proofs.NoBase.{not_opened}
 use Rattle.eco_cli.proofs.checking.plan_check.Goals as goal
 
-pub report_on-requires : goal.report_on-requires
-report_on-requires c =
-    let read = rw c.deref-2.ensures.value at c.in-Ok-read_def.ensures in
-    joints_fit c.args.def.items c.in-Ok-read_def.design read.limits
+pub returns-in_err-base : goal.returns-in_err-base
+returns-in_err-base c =
+    let p = err_from_is_err_and c.from_residual.result c.from_residual.ensures.1 in
+    rw (p.1, p.2) (not_opened (CheckGives (texts_in c.args.texts)) (CheckRefuses (texts_in c.args.texts)) c.args.texts c.in_err-base.field-0.0 (λ f refused. refused) c.in_err-base.ensures)
 
-pub returns : goal.returns
-returns c =
-    let library = rw c.deref.ensures.value at c.in-Ok.ensures.library in
-    let read = rw c.deref-2.ensures.value at c.in-Ok-read_def.ensures in (
-      (
-        record {
-          masters = c.in-Ok.library;
-          design = design_in c.args.def.items c.in-Ok-read_def.design;
-          library = library;
-          read = record { read = read.read; limits = read.limits };
-          counted = c.report_on.ensures ∙ report_is c.args.def.items c.in-Ok.library c.in-Ok-read_def.design;
-        },
-        refl,
-      ),
-      tt,
-    )
+pub returns-in-Ok : goal.returns-in-Ok
+returns-in-Ok c = ((record { base = c.in_ok-base.base; opened = c.in_ok-base.ensures; report = c.in-Ok.ensures }, refl), tt)

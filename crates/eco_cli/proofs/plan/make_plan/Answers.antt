@@ -1,12 +1,15 @@
 use Rattle.std.proofs.Common.{map, string_bytes}
-use Rattle.eco_cli.proofs.TwoTexts.{two_texts}
+use Rattle.eco_cli.proofs.FourTexts.{checked_texts, applied_texts}
 use Rattle.eco_cli.proofs.plan.make_plan.Goals as goal
 
-pub returns : goal.returns
-returns c =
-    let within = rw c.in-Apply.is at c.requires.within in
-    rw (
-      c.in-Apply.is,
-      two_texts (map string_bytes c.args.asked.now.values.now) c.args.texts.items c.remove-in-Apply.new.self.items c.remove-in-Apply.result c.remove-in-Apply-2.result within
-          c.remove-in-Apply.ensures.value c.remove-in-Apply.ensures.by_index.2 c.remove-in-Apply-2.ensures.value,
-    ) c.plan_apply.ensures
+pub base_texts-requires : goal.base_texts-requires
+base_texts-requires c = checked_texts (map string_bytes c.args.asked.now.values.now) (map (λ t. t.items) c.args.texts.items) (rw c.in-Check.is at c.requires.within)
+
+pub base_texts-requires-in-Apply : goal.base_texts-requires-in-Apply
+base_texts-requires-in-Apply c = applied_texts (map string_bytes c.args.asked.now.values.now) (map (λ t. t.items) c.args.texts.items) (rw c.in-Apply.is at c.requires.within)
+
+pub returns-in-Check : goal.returns-in-Check
+returns-in-Check c = rw (c.in-Check.is, ← c.base_texts.ensures) c.plan_check.ensures
+
+pub returns-in-Apply : goal.returns-in-Apply
+returns-in-Apply c = rw (c.in-Apply.is, ← c.base_texts-in-Apply.ensures) c.plan_apply.ensures

@@ -1,6 +1,5 @@
 use Rattle.eco_patch.proofs.Beside.{stock_beside}
 use Rattle.eco_patch.proofs.Lighter.{loop_free_without, loop_free_with, same_without}
-use Rattle.eco_patch.proofs.LoneStock.{lone_beside}
 use Rattle.eco_patch.proofs.laws.without_means_same.Goals as goal
 
 pub returns-clause-loops : goal.returns-clause-loops
@@ -14,6 +13,3 @@ returns-clause-stock c base label place order is once pins = stock_beside base l
 
 pub returns-clause-loops_with : goal.returns-clause-loops_with
 returns-clause-loops_with c = loop_free_with
-
-pub returns-clause-lone : goal.returns-clause-lone
-returns-clause-lone c full low high label place gate move spare x y supplied found is moved pin other = lone_beside full low high label place gate move spare x y supplied found is moved pin other

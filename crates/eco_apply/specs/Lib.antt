@@ -1,6 +1,0 @@
-pub mod NewNets
-pub mod PlainBases
-pub mod OneGates
-pub mod OneLaws
-pub mod OneSteps
-pub mod OneAnswers

@@ -1,0 +1,385 @@
+//! Netlists: what they answer of themselves, and makers that go on from them.
+
+ghost use Rattle.std.specs.Prelude.{IfSome};
+ghost use Rattle.eco_net.specs.declared.ids.PinRef.{PinRef};
+ghost use Rattle.eco_net.specs.Listing.{IsKnownPin};
+
+use crate::said::{depth_said, keys_said, nets_said, observables_said, values_said};
+use crate::texts::{DESK, FUNCTIONS, opened};
+use eco_net::{CompId, NetId, Netlist, NetlistMaker, PinRef};
+use eco_opening::Base;
+use eco_text::Dir;
+use std::alloc::Global;
+use std::test::Fail;
+
+/// Two gates, and a box with a pin of each direction.
+const CELLS: &str = "VERSION 5.8 ;
+MACRO INV PIN A DIRECTION INPUT ; END A PIN Y DIRECTION OUTPUT ; END Y END INV
+MACRO NAND2
+  PIN A DIRECTION INPUT ; END A PIN B DIRECTION INPUT ; END B PIN Y DIRECTION OUTPUT ; END Y
+END NAND2
+MACRO REG
+  PIN D DIRECTION INPUT ; END D PIN Q DIRECTION OUTPUT ; END Q PIN IO DIRECTION INOUT ; END IO
+END REG
+END LIBRARY
+";
+
+/// The components of a design, its top pins, and its nets beside the supplies VDD and VSS.
+#[derive(Clone, Copy, Drop)]
+struct Parts(&'static str, &'static str, &'static str);
+
+/// Nets that are driven by a top pin, a gate, a register, both of two gates, and nothing; a gate whose output is on no net;
+/// and a spare that is tied to VSS.
+const SAMPLE: Parts = Parts(
+    "- u1 INV ; - r1 REG ; - u2 INV ; - u3 INV ; - u4 INV ; - SP_1 INV + FIXED ( 0 0 ) N ;",
+    "- a + NET a + DIRECTION INPUT ; - y + NET y + DIRECTION OUTPUT ; - pad + NET pad + DIRECTION INOUT ;",
+    "- VSS ( SP_1 A ) ; - a ( PIN a ) ( u3 A ) ( u1 A ) ; - b ; - y ( r1 D ) ( PIN y ) ( u1 Y ) ; - z ( u2 Y ) ( u3 Y ) ; \
+     - q ( r1 Q ) ( u2 A ) ; - pad ( PIN pad ) ( u4 A ) ;",
+);
+
+/// Two gates with a register behind them and back, and gates that read supplies and no net.
+const VALUED: Parts = Parts(
+    "- u1 NAND2 ; - u2 INV ; - r1 REG ; - u3 NAND2 ; - u4 NAND2 ; - u5 NAND2 ;",
+    "",
+    "- VDD ( u3 A ) ( u4 A ) ( u5 B ) ; - VSS ( u4 Y ) ; - a ( u1 A ) ; - q ( u1 B ) ( r1 Q ) ; - n1 ( u1 Y ) ( u2 A ) ; \
+     - n2 ( u2 Y ) ( r1 D ) ; - n3 ( u3 Y ) ( u4 B ) ; - n5 ( u5 A ) ; - n4 ( u5 Y ) ;",
+);
+
+/// The base of these parts.
+fn base_of(alloc: Global, parts: Parts) -> Result<Base, Fail> {
+    let Parts(comps, tops, nets) = parts;
+    let def = format!(in alloc;
+        "UNITS DISTANCE MICRONS 1 ; COMPONENTS 1 ; {comps} END COMPONENTS PINS 1 ; {tops} END PINS SPECIALNETS 2 ; \
+         - VDD + USE POWER ; - VSS + USE GROUND ; END SPECIALNETS NETS 1 ; {nets} END NETS END DESIGN"
+    )?;
+    Ok(opened(alloc, [CELLS, def.as_str(), FUNCTIONS, DESK])??)
+}
+
+const NETS: &str = "VDD supply=1 tie
+VSS supply=0 tie
+a PIN/a -> u1/A u3/A
+b
+y u1/Y -> PIN/y r1/D
+z -> u2/Y u3/Y
+q r1/Q -> u2/A
+pad PIN/pad -> u4/A
+";
+
+/// Changes of the nets of the sample: a pin and the net that it is put on, or none where it is taken off its net; and the
+/// lines that change.
+struct PinMove(
+    &'static str,
+    &'static str,
+    Option<&'static str>,
+    &'static [(&'static str, &'static str)],
+);
+
+const MOVED: [PinMove; 3] = [
+    PinMove(
+        "r1",
+        "D",
+        Some("b"),
+        &[("b\n", "b -> r1/D\n"), (" -> PIN/y r1/D\n", " -> PIN/y\n")],
+    ),
+    PinMove("u2", "Y", None, &[("z -> u2/Y u3/Y\n", "z u3/Y\n")]),
+    PinMove(
+        "r1",
+        "IO",
+        Some("q"),
+        &[("q r1/Q -> u2/A\n", "q -> r1/Q r1/IO u2/A\n")],
+    ),
+];
+
+/// The number of a component's pin.
+fn find(maker: &NetlistMaker, comp: &[u8], pin: &[u8]) -> Option<(CompId, u32)>
+    ensures { IfSome result (λ p. IsKnownPin maker.now (PinRef.Pin p.0 p.1)) }
+{
+    let _listing = maker.counts();
+    match maker.find_comp(comp) {
+        None => None,
+        Some(comp) => match maker.find_pin(comp, pin) {
+            None => None,
+            Some(pin) => Some((comp, pin)),
+        },
+    }
+}
+
+/// Puts a pin on another net, or takes it off its net.
+fn move_pin(maker: &mut NetlistMaker, change: &PinMove) -> Result<(), Fail> {
+    let Some((comp, pin)) = find(maker, change.0.as_bytes(), change.1.as_bytes()) else {
+        return Err("no such pin".into());
+    };
+    let Some(net) = change.2 else {
+        maker.part(comp, pin);
+        return Ok(());
+    };
+    match maker.find_net(net.as_bytes()) {
+        Some(net) if net.0 < maker.counts().nets => Ok(maker.join(comp, pin, net)?),
+        _ => Err("no such net".into()),
+    }
+}
+
+/// The nets of the sample after a change, by a maker that goes on from it.
+fn moved(alloc: Global, netlist: &Netlist, change: &PinMove) -> Result<String, Fail> {
+    let mut maker = NetlistMaker::of(alloc, netlist)?;
+    move_pin(&mut maker, change)?;
+    nets_said(alloc, &maker.finish(alloc)?)
+}
+
+#[test]
+fn nets_with_their_drivers_and_sinks(rt: HostRuntime) -> Result<(), Fail> {
+    let alloc = rt.alloc();
+    let base = base_of(alloc, SAMPLE)?;
+    let netlist = base.netlist();
+    assert_eq!(rt; nets_said(alloc, netlist)?.as_str(), NETS);
+    for change in &MOVED {
+        let mut wanted = String::from_str(alloc, NETS)?;
+        for (old, new) in change.3 {
+            wanted = wanted.replace(alloc, old, new)?;
+        }
+        assert_eq!(rt;
+            moved(alloc, netlist, change)?,
+            wanted,
+            "{} {}",
+            change.0,
+            change.1
+        );
+    }
+    Ok(())
+}
+
+/// Netlists with how many nets, components, top pins and pins on nets they have, their depth, cut keys and observables.
+const SAID: [(Parts, &str); 8] = [
+    (
+        SAMPLE,
+        "8 5 3 9 depth=1 keys PIN/a b z r1/Q pad observables PIN/y PIN/pad r1/D r1/IO u2/Y u3/Y",
+    ),
+    // no component, and no gate
+    (Parts("", "", ""), "2 0 0 0 depth=0 keys observables"),
+    (
+        Parts("- r1 REG ;", "", "- d ( r1 D ) ; - q ( r1 Q ) ;"),
+        "4 1 0 2 depth=0 keys d r1/Q observables r1/D r1/IO",
+    ),
+    // a chain
+    (
+        Parts(
+            "- u3 INV ; - u2 INV ; - u1 INV ;",
+            "",
+            "- a ( u1 A ) ; - n1 ( u1 Y ) ( u2 A ) ; - n2 ( u2 Y ) ( u3 A ) ; - n3 ( u3 Y ) ;",
+        ),
+        "6 3 0 6 depth=3 keys a observables",
+    ),
+    // a register between two gates
+    (
+        Parts(
+            "- u1 INV ; - r1 REG ; - u2 INV ;",
+            "",
+            "- a ( u1 A ) ; - n1 ( u1 Y ) ( r1 D ) ; - q ( r1 Q ) ( u2 A ) ; - n2 ( u2 Y ) ;",
+        ),
+        "6 3 0 6 depth=1 keys a r1/Q observables r1/D r1/IO",
+    ),
+    // a gate whose output is on no net
+    (
+        Parts(
+            "- u1 INV ; - u2 INV ;",
+            "",
+            "- a ( u1 A ) ; - n1 ( u1 Y ) ( u2 A ) ;",
+        ),
+        "4 2 0 3 depth=2 keys a observables",
+    ),
+    // two gates on one net, which so is not computed
+    (
+        Parts(
+            "- u1 INV ; - u2 INV ; - u3 INV ;",
+            "",
+            "- a ( u1 A ) ; - b ( u2 A ) ; - n1 ( u1 Y ) ( u2 Y ) ( u3 A ) ; - n2 ( u3 Y ) ;",
+        ),
+        "6 3 0 6 depth=1 keys a b n1 observables u1/Y u2/Y",
+    ),
+    // the longer of two ways
+    (
+        Parts(
+            "- u3 NAND2 ; - u2 INV ; - u1 INV ;",
+            "",
+            "- a ( u1 A ) ( u3 A ) ; - n1 ( u1 Y ) ( u2 A ) ; - n2 ( u2 Y ) ( u3 B ) ; - n3 ( u3 Y ) ;",
+        ),
+        "6 3 0 7 depth=3 keys a observables",
+    ),
+];
+
+/// How many nets, components, top pins and pins on nets a netlist has.
+fn counts_said(alloc: Global, netlist: &Netlist) -> Result<String, Fail> {
+    let counts = netlist.counts();
+    let pins = netlist.joined_pins();
+    Ok(format!(in alloc; "{} {} {} {pins}", counts.nets, counts.comps, counts.tops)?)
+}
+
+/// All these answers of a netlist.
+fn said(alloc: Global, netlist: &Netlist) -> Result<String, Fail> {
+    let counts = counts_said(alloc, netlist)?;
+    let depth = depth_said(alloc, netlist)?;
+    let keys = keys_said(alloc, netlist)?;
+    let observables = observables_said(alloc, netlist)?;
+    Ok(format!(in alloc; "{counts} {depth} keys{keys} observables{observables}")?)
+}
+
+#[test]
+fn counts_depths_cut_keys_and_observables(rt: HostRuntime) -> Result<(), Fail> {
+    let alloc = rt.alloc();
+    for (parts, wanted) in SAID {
+        let base = base_of(alloc, parts)?;
+        assert_eq!(rt; said(alloc, base.netlist())?.as_str(), wanted);
+    }
+    Ok(())
+}
+
+/// The bits of a, r1/Q and n5, and the values of the nets.
+const VALUES: [(&str, &str); 4] = [
+    ("000", " VDD=1 VSS=0 a=0 q=0 n1=1 n2=0 n3=1 n5=0 n4=1"),
+    ("101", " VDD=1 VSS=0 a=1 q=0 n1=1 n2=0 n3=1 n5=1 n4=0"),
+    ("011", " VDD=1 VSS=0 a=0 q=1 n1=1 n2=0 n3=1 n5=1 n4=0"),
+    ("110", " VDD=1 VSS=0 a=1 q=1 n1=0 n2=1 n3=1 n5=0 n4=1"),
+];
+
+#[test]
+fn gates_supplies_and_free_nets(rt: HostRuntime) -> Result<(), Fail> {
+    let alloc = rt.alloc();
+    let base = base_of(alloc, VALUED)?;
+    assert_eq!(rt; keys_said(alloc, base.netlist())?.as_str(), " a r1/Q n5");
+    for (bits, wanted) in VALUES {
+        assert_eq!(rt;
+            values_said(alloc, base.netlist(), bits)?.as_str(),
+            wanted,
+            "{bits}"
+        );
+    }
+    Ok(())
+}
+
+/// The marks of the components that are taken out of the sample, and the counts of what is left: of its pins on nets two of
+/// an inverter, but one of the last, and two of the register's three.
+const LEFT: [([bool; 5], &str); 4] = [
+    ([false, false, false, false, false], "8 5 3 9"),
+    ([true, false, false, false, false], "8 4 3 7"),
+    ([false, true, false, false, true], "8 3 3 6"),
+    ([true, true, true, true, true], "8 0 3 0"),
+];
+
+/// The nets of the sample without r1 and u2.
+const NETS_LEFT: &str = "VDD supply=1 tie
+VSS supply=0 tie
+a PIN/a -> u1/A u3/A
+b
+y u1/Y -> PIN/y
+z u3/Y
+q
+pad PIN/pad -> u4/A
+";
+
+/// The netlist without the components that are marked.
+fn left(alloc: Global, netlist: &Netlist, marks: &[bool]) -> Result<Netlist, Fail> {
+    let maker = NetlistMaker::of(alloc, netlist)?
+        .finish(alloc)?
+        .into_maker();
+    if maker.counts().comps as usize != marks.len() {
+        return Err("a mark for each component".into());
+    }
+    Ok(maker.without(alloc, marks)?.finish(alloc)?)
+}
+
+#[test]
+fn components_are_taken_out(rt: HostRuntime) -> Result<(), Fail> {
+    let alloc = rt.alloc();
+    let base = base_of(alloc, SAMPLE)?;
+    for (marks, wanted) in &LEFT {
+        let netlist = left(alloc, base.netlist(), marks)?;
+        assert_eq!(rt; counts_said(alloc, &netlist)?.as_str(), *wanted);
+    }
+    let netlist = left(alloc, base.netlist(), &[false, true, true, false, false])?;
+    assert_eq!(rt; nets_said(alloc, &netlist)?.as_str(), NETS_LEFT);
+    assert_eq!(rt; netlist.find_comp(b"r1"), None);
+    assert_eq!(rt; netlist.find_comp(b"u3"), Some(CompId(1)));
+    assert_eq!(rt; netlist.find_net(b"pad"), Some(NetId(7)));
+    assert_eq!(rt; netlist.find_net(b"n"), None);
+    assert!(rt; netlist.is_reserved(b"SP_1") && !netlist.is_reserved(b"u1"));
+    Ok(())
+}
+
+/// Pins of the sample, each with its direction, its name and its net.
+const PINS: [(&str, &str, &str); 8] = [
+    ("u1", "A", "Input A a"),
+    ("u1", "Y", "Output Y y"),
+    ("u4", "Y", "Output Y"),
+    ("r1", "D", "Input D y"),
+    ("r1", "Q", "Output Q q"),
+    ("r1", "IO", "Inout IO"),
+    ("u1", "B", "none"),
+    ("SP_1", "A", "none"),
+];
+
+/// The number of a component's pin.
+fn known(netlist: &Netlist, comp: &[u8], pin: &[u8]) -> Option<(CompId, u32)>
+    ensures { IfSome result (λ p. IsKnownPin netlist.now (PinRef.Pin p.0 p.1)) }
+{
+    let _listing = netlist.counts();
+    match netlist.find_comp(comp) {
+        None => None,
+        Some(comp) => match netlist.find_pin(comp, pin) {
+            None => None,
+            Some(pin) => Some((comp, pin)),
+        },
+    }
+}
+
+/// The net of a pin, behind a blank.
+fn net_said(alloc: Global, netlist: &Netlist, pin: PinRef) -> Result<String, Fail>
+    requires { IsKnownPin netlist.now pin }
+{
+    match netlist.net_of(pin) {
+        Some(net) => Ok(format!(in alloc; " {}", str::from_utf8(netlist.net_name(net))?)?),
+        None => Ok(String::new(alloc)),
+    }
+}
+
+/// The name of a pin.
+fn name_said(netlist: &Netlist, pin: PinRef) -> Result<&str, Fail>
+    requires { IsKnownPin netlist.now pin }
+{
+    Ok(str::from_utf8(netlist.pin_name(pin).pin)?)
+}
+
+/// The direction of a pin.
+fn dir_said(netlist: &Netlist, comp: CompId, pin: u32) -> &'static str
+    requires { IsKnownPin netlist.now (PinRef.Pin comp pin) }
+{
+    match netlist.pin_dir(comp, pin) {
+        Dir::Input => "Input",
+        Dir::Output => "Output",
+        Dir::Inout => "Inout",
+    }
+}
+
+/// The direction of a pin, its name, and its net.
+fn pin_said(alloc: Global, netlist: &Netlist, comp: &str, pin: &str) -> Result<String, Fail> {
+    let Some((comp, pin)) = known(netlist, comp.as_bytes(), pin.as_bytes()) else {
+        return Ok(String::from_str(alloc, "none")?);
+    };
+    let dir = dir_said(netlist, comp, pin);
+    let name = name_said(netlist, PinRef::Pin(comp, pin))?;
+    let net = net_said(alloc, netlist, PinRef::Pin(comp, pin))?;
+    Ok(format!(in alloc; "{dir} {name}{net}")?)
+}
+
+#[test]
+fn pins_by_name(rt: HostRuntime) -> Result<(), Fail> {
+    let alloc = rt.alloc();
+    let base = base_of(alloc, SAMPLE)?;
+    for (comp, pin, wanted) in PINS {
+        assert_eq!(rt;
+            pin_said(alloc, base.netlist(), comp, pin)?.as_str(),
+            wanted,
+            "{comp}/{pin}"
+        );
+    }
+    Ok(())
+}
