@@ -2,7 +2,7 @@
 
 use crate::overlay::written;
 use crate::said::values_said;
-use crate::texts::{DEF, ONE_GATE, opened_design};
+use crate::texts::{DEF, ONE_GATE, netlist, opened_design};
 use eco_base::{OneGate, apply_one};
 use eco_embed::Feed;
 use eco_func::{Name, Table};
@@ -52,13 +52,29 @@ const TIED: &[Feed] = &[Feed::One, Feed::Input(0)];
 
 const U2_A: [&str; 3] = ["u2", "A", "n1"];
 
+/// A base's design.
+#[derive(Clone, Copy, Debug, Drop)]
+enum Design {
+    OneGate,
+    Small,
+}
+
+impl Design {
+    fn text(self) -> &'static str {
+        match self {
+            Design::OneGate => ONE_GATE,
+            Design::Small => DEF,
+        }
+    }
+}
+
 /// The changes that an issued text has in a base's.
 type Changes = [(&'static str, &'static str); 6];
 
 /// Designs, orders that are applied, and what changes: a gate's input is moved, and a box's.
-const APPLIED: [(&str, Asked, Changes); 3] = [
+const APPLIED: [(Design, Asked, Changes); 3] = [
     (
-        ONE_GATE,
+        Design::OneGate,
         Asked("SP_1", "a", TIED, U2_A),
         [
             ("NETS 6 ;", "NETS 7 ;"),
@@ -70,7 +86,7 @@ const APPLIED: [(&str, Asked, Changes); 3] = [
         ],
     ),
     (
-        DEF,
+        Design::Small,
         Asked("SP_1", "a", TIED, U2_A),
         [
             ("NETS 6 ;", "NETS 7 ;"),
@@ -85,7 +101,7 @@ const APPLIED: [(&str, Asked, Changes); 3] = [
         ],
     ),
     (
-        DEF,
+        Design::Small,
         Asked("SP_1", "n1", TIED, ["r1", "D", "n2"]),
         [
             ("NETS 6 ;", "NETS 7 ;"),
@@ -113,9 +129,12 @@ fn changed(alloc: Global, text: &str, changes: &Changes) -> Result<String, Fail>
 #[test]
 fn an_inverter_on_a_nand(rt: HostRuntime) -> Result<(), Fail> {
     let alloc = rt.alloc();
-    for (text, asked, changes) in &APPLIED {
-        let base = opened_design(alloc, text)?;
-        assert_eq!(rt; said(alloc, &base, asked)?, changed(alloc, text, changes)?);
+    for (design, asked, changes) in &APPLIED {
+        let base = opened_design(alloc, design.text())?;
+        assert_eq!(rt;
+            said(alloc, &base, asked)?,
+            changed(alloc, design.text(), changes)?
+        );
     }
     Ok(())
 }
@@ -131,55 +150,71 @@ const VALUES: [(&str, &str); 4] = [
 #[test]
 fn the_values_with_an_inverter_on_a_nand(rt: HostRuntime) -> Result<(), Fail> {
     let alloc = rt.alloc();
-    let base = opened_design(alloc, ONE_GATE)?;
+    let base = opened_design(alloc, Design::OneGate.text())?;
     let issued = said(alloc, &base, &Asked("SP_1", "a", TIED, U2_A))?;
     let base = opened_design(alloc, issued.as_str())?;
     for (bits, wanted) in VALUES {
-        assert_eq!(rt; values_said(alloc, base.netlist(), bits)?.as_str(), wanted);
+        assert_eq!(rt; values_said(alloc, netlist(&base), bits)?.as_str(), wanted);
     }
     Ok(())
 }
 
-const REFUSED: [(&str, Asked, &str); 17] = [
-    (ONE_GATE, Asked("u1", "a", TIED, U2_A), "NotSpare"),
-    (ONE_GATE, Asked("SP_1", "n2", TIED, U2_A), "BadOrder"),
+const REFUSED: [(Design, Asked, &str); 17] = [
+    (Design::OneGate, Asked("u1", "a", TIED, U2_A), "NotSpare"),
+    (Design::OneGate, Asked("SP_1", "n2", TIED, U2_A), "BadOrder"),
     (
-        ONE_GATE,
+        Design::OneGate,
         Asked("SP_1", "a", &[Feed::Zero, Feed::Input(0)], U2_A),
         "NotEmbedding",
     ),
-    (DEF, Asked("u1", "a", TIED, U2_A), "NotSpare"),
+    (Design::Small, Asked("u1", "a", TIED, U2_A), "NotSpare"),
     // it isn't placed
-    (DEF, Asked("SP_4", "a", TIED, U2_A), "NotSpare"),
-    (DEF, Asked("SP_9", "a", TIED, U2_A), "NotSpare"),
+    (Design::Small, Asked("SP_4", "a", TIED, U2_A), "NotSpare"),
+    (Design::Small, Asked("SP_9", "a", TIED, U2_A), "NotSpare"),
     // of two reasons the first
-    (DEF, Asked("u1", "zz", &[], U2_A), "NotSpare"),
-    (DEF, Asked("SP_1", "zz", &[], U2_A), "BadOrder"),
+    (Design::Small, Asked("u1", "zz", &[], U2_A), "NotSpare"),
+    (Design::Small, Asked("SP_1", "zz", &[], U2_A), "BadOrder"),
     // a signal would run in a circle
-    (DEF, Asked("SP_1", "n2", TIED, U2_A), "BadOrder"),
+    (Design::Small, Asked("SP_1", "n2", TIED, U2_A), "BadOrder"),
     // pins that can't be moved
-    (DEF, Asked("SP_1", "a", TIED, ["u2", "Y", "n2"]), "BadOrder"),
-    (DEF, Asked("SP_1", "a", TIED, ["r1", "Q", "q"]), "BadOrder"),
-    (DEF, Asked("SP_1", "a", TIED, ["u2", "B", "n1"]), "BadOrder"),
-    (DEF, Asked("SP_1", "a", TIED, ["u2", "A", "n2"]), "BadOrder"),
     (
-        DEF,
+        Design::Small,
+        Asked("SP_1", "a", TIED, ["u2", "Y", "n2"]),
+        "BadOrder",
+    ),
+    (
+        Design::Small,
+        Asked("SP_1", "a", TIED, ["r1", "Q", "q"]),
+        "BadOrder",
+    ),
+    (
+        Design::Small,
+        Asked("SP_1", "a", TIED, ["u2", "B", "n1"]),
+        "BadOrder",
+    ),
+    (
+        Design::Small,
+        Asked("SP_1", "a", TIED, ["u2", "A", "n2"]),
+        "BadOrder",
+    ),
+    (
+        Design::Small,
         Asked("SP_1", "a", TIED, ["SP_2", "A", "VSS"]),
         "BadOrder",
     ),
     // pins that don't make the gate
     (
-        DEF,
+        Design::Small,
         Asked("SP_1", "a", &[Feed::Zero, Feed::Input(0)], U2_A),
         "NotEmbedding",
     ),
     (
-        DEF,
+        Design::Small,
         Asked("SP_1", "a", &[Feed::One, Feed::Input(1)], U2_A),
         "NotEmbedding",
     ),
     (
-        DEF,
+        Design::Small,
         Asked("SP_1", "a", &[Feed::Input(0)], U2_A),
         "NotEmbedding",
     ),
@@ -188,8 +223,8 @@ const REFUSED: [(&str, Asked, &str); 17] = [
 #[test]
 fn orders_that_are_refused(rt: HostRuntime) -> Result<(), Fail> {
     let alloc = rt.alloc();
-    for (text, asked, fault) in &REFUSED {
-        let base = opened_design(alloc, text)?;
+    for (design, asked, fault) in &REFUSED {
+        let base = opened_design(alloc, design.text())?;
         assert_eq!(rt; said(alloc, &base, asked)?.as_str(), *fault, "{fault}");
     }
     Ok(())

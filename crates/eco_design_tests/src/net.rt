@@ -5,7 +5,7 @@ ghost use Rattle.eco_net.specs.declared.ids.PinRef.{PinRef};
 ghost use Rattle.eco_net.specs.Listing.{IsKnownPin};
 
 use crate::said::{depth_said, keys_said, nets_said, observables_said, values_said};
-use crate::texts::{DESK, FUNCTIONS, opened};
+use crate::texts::{DESK, FUNCTIONS, netlist, opened};
 use eco_net::{CompId, NetId, Netlist, NetlistMaker, PinRef};
 use eco_opening::Base;
 use eco_text::Dir;
@@ -30,20 +30,24 @@ struct Parts(&'static str, &'static str, &'static str);
 
 /// Nets that are driven by a top pin, a gate, a register, both of two gates, and nothing; a gate whose output is on no net;
 /// and a spare that is tied to VSS.
-const SAMPLE: Parts = Parts(
-    "- u1 INV ; - r1 REG ; - u2 INV ; - u3 INV ; - u4 INV ; - SP_1 INV + FIXED ( 0 0 ) N ;",
-    "- a + NET a + DIRECTION INPUT ; - y + NET y + DIRECTION OUTPUT ; - pad + NET pad + DIRECTION INOUT ;",
-    "- VSS ( SP_1 A ) ; - a ( PIN a ) ( u3 A ) ( u1 A ) ; - b ; - y ( r1 D ) ( PIN y ) ( u1 Y ) ; - z ( u2 Y ) ( u3 Y ) ; \
-     - q ( r1 Q ) ( u2 A ) ; - pad ( PIN pad ) ( u4 A ) ;",
-);
+fn sample() -> Parts {
+    Parts(
+        "- u1 INV ; - r1 REG ; - u2 INV ; - u3 INV ; - u4 INV ; - SP_1 INV + FIXED ( 0 0 ) N ;",
+        "- a + NET a + DIRECTION INPUT ; - y + NET y + DIRECTION OUTPUT ; - pad + NET pad + DIRECTION INOUT ;",
+        "- VSS ( SP_1 A ) ; - a ( PIN a ) ( u3 A ) ( u1 A ) ; - b ; - y ( r1 D ) ( PIN y ) ( u1 Y ) ; - z ( u2 Y ) ( u3 Y ) ; \
+         - q ( r1 Q ) ( u2 A ) ; - pad ( PIN pad ) ( u4 A ) ;",
+    )
+}
 
 /// Two gates with a register behind them and back, and gates that read supplies and no net.
-const VALUED: Parts = Parts(
-    "- u1 NAND2 ; - u2 INV ; - r1 REG ; - u3 NAND2 ; - u4 NAND2 ; - u5 NAND2 ;",
-    "",
-    "- VDD ( u3 A ) ( u4 A ) ( u5 B ) ; - VSS ( u4 Y ) ; - a ( u1 A ) ; - q ( u1 B ) ( r1 Q ) ; - n1 ( u1 Y ) ( u2 A ) ; \
-     - n2 ( u2 Y ) ( r1 D ) ; - n3 ( u3 Y ) ( u4 B ) ; - n5 ( u5 A ) ; - n4 ( u5 Y ) ;",
-);
+fn valued() -> Parts {
+    Parts(
+        "- u1 NAND2 ; - u2 INV ; - r1 REG ; - u3 NAND2 ; - u4 NAND2 ; - u5 NAND2 ;",
+        "",
+        "- VDD ( u3 A ) ( u4 A ) ( u5 B ) ; - VSS ( u4 Y ) ; - a ( u1 A ) ; - q ( u1 B ) ( r1 Q ) ; - n1 ( u1 Y ) ( u2 A ) ; \
+         - n2 ( u2 Y ) ( r1 D ) ; - n3 ( u3 Y ) ( u4 B ) ; - n5 ( u5 A ) ; - n4 ( u5 Y ) ;",
+    )
+}
 
 /// The base of these parts.
 fn base_of(alloc: Global, parts: Parts) -> Result<Base, Fail> {
@@ -129,16 +133,16 @@ fn moved(alloc: Global, netlist: &Netlist, change: &PinMove) -> Result<String, F
 #[test]
 fn nets_with_their_drivers_and_sinks(rt: HostRuntime) -> Result<(), Fail> {
     let alloc = rt.alloc();
-    let base = base_of(alloc, SAMPLE)?;
-    let netlist = base.netlist();
-    assert_eq!(rt; nets_said(alloc, netlist)?.as_str(), NETS);
+    let base = base_of(alloc, sample())?;
+    let before = netlist(&base);
+    assert_eq!(rt; nets_said(alloc, before)?.as_str(), NETS);
     for change in &MOVED {
         let mut wanted = String::from_str(alloc, NETS)?;
         for (old, new) in change.3 {
             wanted = wanted.replace(alloc, old, new)?;
         }
         assert_eq!(rt;
-            moved(alloc, netlist, change)?,
+            moved(alloc, before, change)?,
             wanted,
             "{} {}",
             change.0,
@@ -148,12 +152,12 @@ fn nets_with_their_drivers_and_sinks(rt: HostRuntime) -> Result<(), Fail> {
     Ok(())
 }
 
+/// What is said of the sample.
+const SAMPLE_SAID: &str =
+    "8 5 3 9 depth=1 keys PIN/a b z r1/Q pad observables PIN/y PIN/pad r1/D r1/IO u2/Y u3/Y";
+
 /// Netlists with how many nets, components, top pins and pins on nets they have, their depth, cut keys and observables.
-const SAID: [(Parts, &str); 8] = [
-    (
-        SAMPLE,
-        "8 5 3 9 depth=1 keys PIN/a b z r1/Q pad observables PIN/y PIN/pad r1/D r1/IO u2/Y u3/Y",
-    ),
+const SAID: [(Parts, &str); 7] = [
     // no component, and no gate
     (Parts("", "", ""), "2 0 0 0 depth=0 keys observables"),
     (
@@ -226,9 +230,11 @@ fn said(alloc: Global, netlist: &Netlist) -> Result<String, Fail> {
 #[test]
 fn counts_depths_cut_keys_and_observables(rt: HostRuntime) -> Result<(), Fail> {
     let alloc = rt.alloc();
+    let base = base_of(alloc, sample())?;
+    assert_eq!(rt; said(alloc, netlist(&base))?.as_str(), SAMPLE_SAID);
     for (parts, wanted) in SAID {
         let base = base_of(alloc, parts)?;
-        assert_eq!(rt; said(alloc, base.netlist())?.as_str(), wanted);
+        assert_eq!(rt; said(alloc, netlist(&base))?.as_str(), wanted);
     }
     Ok(())
 }
@@ -244,11 +250,11 @@ const VALUES: [(&str, &str); 4] = [
 #[test]
 fn gates_supplies_and_free_nets(rt: HostRuntime) -> Result<(), Fail> {
     let alloc = rt.alloc();
-    let base = base_of(alloc, VALUED)?;
-    assert_eq!(rt; keys_said(alloc, base.netlist())?.as_str(), " a r1/Q n5");
+    let base = base_of(alloc, valued())?;
+    assert_eq!(rt; keys_said(alloc, netlist(&base))?.as_str(), " a r1/Q n5");
     for (bits, wanted) in VALUES {
         assert_eq!(rt;
-            values_said(alloc, base.netlist(), bits)?.as_str(),
+            values_said(alloc, netlist(&base), bits)?.as_str(),
             wanted,
             "{bits}"
         );
@@ -287,21 +293,27 @@ fn left(alloc: Global, netlist: &Netlist, marks: &[bool]) -> Result<Netlist, Fai
     Ok(maker.without(alloc, marks)?.finish(alloc)?)
 }
 
+/// Whether what is left of the sample without r1 and u2 is found by name.
+fn is_found(rest: &Netlist) -> bool {
+    rest.find_comp(b"r1").is_none()
+        && rest.find_comp(b"u3") == Some(CompId(1))
+        && rest.find_net(b"pad") == Some(NetId(7))
+        && rest.find_net(b"n").is_none()
+        && rest.is_reserved(b"SP_1")
+        && !rest.is_reserved(b"u1")
+}
+
 #[test]
 fn components_are_taken_out(rt: HostRuntime) -> Result<(), Fail> {
     let alloc = rt.alloc();
-    let base = base_of(alloc, SAMPLE)?;
+    let base = base_of(alloc, sample())?;
     for (marks, wanted) in &LEFT {
-        let netlist = left(alloc, base.netlist(), marks)?;
-        assert_eq!(rt; counts_said(alloc, &netlist)?.as_str(), *wanted);
+        let rest = left(alloc, netlist(&base), marks)?;
+        assert_eq!(rt; counts_said(alloc, &rest)?.as_str(), *wanted);
     }
-    let netlist = left(alloc, base.netlist(), &[false, true, true, false, false])?;
-    assert_eq!(rt; nets_said(alloc, &netlist)?.as_str(), NETS_LEFT);
-    assert_eq!(rt; netlist.find_comp(b"r1"), None);
-    assert_eq!(rt; netlist.find_comp(b"u3"), Some(CompId(1)));
-    assert_eq!(rt; netlist.find_net(b"pad"), Some(NetId(7)));
-    assert_eq!(rt; netlist.find_net(b"n"), None);
-    assert!(rt; netlist.is_reserved(b"SP_1") && !netlist.is_reserved(b"u1"));
+    let rest = left(alloc, netlist(&base), &[false, true, true, false, false])?;
+    assert_eq!(rt; nets_said(alloc, &rest)?.as_str(), NETS_LEFT);
+    assert!(rt; is_found(&rest));
     Ok(())
 }
 
@@ -373,10 +385,10 @@ fn pin_said(alloc: Global, netlist: &Netlist, comp: &str, pin: &str) -> Result<S
 #[test]
 fn pins_by_name(rt: HostRuntime) -> Result<(), Fail> {
     let alloc = rt.alloc();
-    let base = base_of(alloc, SAMPLE)?;
+    let base = base_of(alloc, sample())?;
     for (comp, pin, wanted) in PINS {
         assert_eq!(rt;
-            pin_said(alloc, base.netlist(), comp, pin)?.as_str(),
+            pin_said(alloc, netlist(&base), comp, pin)?.as_str(),
             wanted,
             "{comp}/{pin}"
         );

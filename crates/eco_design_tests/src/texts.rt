@@ -1,5 +1,6 @@
 //! The small base, and the opening of bases from texts.
 
+use eco_net::Netlist;
 use eco_opening::{Base, BaseFault, open_base};
 use std::alloc::Global;
 use std::test::Fail;
@@ -127,4 +128,9 @@ pub fn opened(alloc: Global, texts: [&str; 4]) -> Result<Result<Base, BaseFault>
 /// The base of a design with the other texts of the small base.
 pub fn opened_design(alloc: Global, def: &str) -> Result<Base, Fail> {
     Ok(opened(alloc, [LEF, def, FUNCTIONS, DESK])??)
+}
+
+/// The netlist of a base. The tests need nothing of what its contract says.
+pub fn netlist(base: &Base) -> &Netlist {
+    base.netlist()
 }
