@@ -1,46 +1,4 @@
-//! The small base, and the opening of bases from texts.
-
-use eco_net::Netlist;
-use eco_opening::{Base, BaseFault, open_base};
-use std::alloc::Global;
-use std::test::Fail;
-
-/// The masters of the small base, and a constant.
-pub const LEF: &str = "VERSION 5.8 ;
-MACRO INV
-  SIZE 0.4 BY 2 ;
-  PIN A DIRECTION INPUT ; USE SIGNAL ; END A
-  PIN Y DIRECTION OUTPUT ; USE SIGNAL ; END Y
-  PIN VDD DIRECTION INOUT ; USE POWER ; END VDD
-  PIN VSS DIRECTION INOUT ; USE GROUND ; END VSS
-END INV
-MACRO NAND2
-  SIZE 0.6 BY 2 ;
-  PIN A DIRECTION INPUT ; USE SIGNAL ; END A
-  PIN B DIRECTION INPUT ; USE SIGNAL ; END B
-  PIN Y DIRECTION OUTPUT ; USE SIGNAL ; END Y
-  PIN VDD DIRECTION INOUT ; USE POWER ; END VDD
-  PIN VSS DIRECTION INOUT ; USE GROUND ; END VSS
-END NAND2
-MACRO AOI21
-  SIZE 0.8 BY 2 ;
-  PIN A DIRECTION INPUT ; USE SIGNAL ; END A
-  PIN B DIRECTION INPUT ; USE SIGNAL ; END B
-  PIN C DIRECTION INPUT ; USE SIGNAL ; END C
-  PIN Y DIRECTION OUTPUT ; USE SIGNAL ; END Y
-  PIN VDD DIRECTION INOUT ; USE POWER ; END VDD
-  PIN VSS DIRECTION INOUT ; USE GROUND ; END VSS
-END AOI21
-MACRO DFF
-  SIZE 1.6 BY 2 ;
-  PIN D DIRECTION INPUT ; USE SIGNAL ; END D
-  PIN CK DIRECTION INPUT ; USE CLOCK ; END CK
-  PIN Q DIRECTION OUTPUT ; USE SIGNAL ; END Q
-  PIN VDD DIRECTION INOUT ; USE POWER ; END VDD
-  PIN VSS DIRECTION INOUT ; USE GROUND ; END VSS
-END DFF
-END LIBRARY
-";
+//! The small base.
 
 /// The design of the small base.
 pub const DEF: &str = "VERSION 5.8 ;
@@ -79,24 +37,6 @@ END NETS
 END DESIGN
 ";
 
-/// Two gates and a spare.
-pub const ONE_GATE: &str = "UNITS DISTANCE MICRONS 1000 ;
-COMPONENTS 3 ;
-- u1 NAND2 + PLACED ( 1000 1000 ) N ;
-- u2 INV + PLACED ( 3000 1000 ) N ;
-- SP_1 NAND2 + FIXED ( 2000 2000 ) N ;
-END COMPONENTS
-NETS 6 ;
-- VDD + USE POWER ;
-- VSS ( SP_1 A ) ( SP_1 B ) + USE GROUND ;
-- a ( u1 A ) ;
-- b ( u1 B ) ;
-- n1 ( u1 Y ) ( u2 A ) ;
-- n2 ( u2 Y ) ;
-END NETS
-END DESIGN
-";
-
 /// The functions of the small base.
 pub const FUNCTIONS: &str = "[INV]
 inputs = [\"A\"]
@@ -108,29 +48,3 @@ outputs = { Y = \"1110\" }
 inputs = [\"A\", \"B\", \"C\"]
 outputs = { Y = \"!((A & B) | C)\" }
 ";
-
-/// The desk file of the small base.
-pub const DESK: &str = "tie_high = \"VDD\"\ntie_low = \"VSS\"\nspares = [\"SP_\"]\n";
-
-/// The base of these four texts, or its fault.
-pub fn opened(alloc: Global, texts: [&str; 4]) -> Result<Result<Base, BaseFault>, Fail> {
-    let [lef, def, functions, desk] = texts;
-    if 10_000_000 < lef.len() || 10_000_000 < def.len() {
-        return Err("a text that is too long".into());
-    }
-    let lef = Vec::from_slice(alloc, lef.as_bytes())?;
-    let def = Vec::from_slice(alloc, def.as_bytes())?;
-    let functions = Vec::from_slice(alloc, functions.as_bytes())?;
-    let desk = Vec::from_slice(alloc, desk.as_bytes())?;
-    Ok(open_base(alloc, lef, def, functions, desk))
-}
-
-/// The base of a design with the other texts of the small base.
-pub fn opened_design(alloc: Global, def: &str) -> Result<Base, Fail> {
-    Ok(opened(alloc, [LEF, def, FUNCTIONS, DESK])??)
-}
-
-/// The netlist of a base. The tests need nothing of what its contract says.
-pub fn netlist(base: &Base) -> &Netlist {
-    base.netlist()
-}
