@@ -16,3 +16,4 @@ mod WholeText
 mod SpecialNets
 pub mod WalkOrder
 mod Examples
+pub mod NearJoints

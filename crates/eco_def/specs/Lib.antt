@@ -9,3 +9,5 @@ pub mod TopPins
 pub mod Sections
 pub mod Answers
 pub mod Named
+pub mod Near
+pub mod Kept

@@ -1,5 +1,6 @@
 //! What a DEF text says, by places in the text.
 
+use crate::joints::Joints;
 use crate::place::Place;
 use eco_text::{Dir, Word};
 use sqlite_items::Items;
@@ -40,7 +41,7 @@ pub struct NetStatement {
     pub end: u32,
     /// The word of the first `+ USE`.
     pub usage: Option<Word>,
-    pub joints: Items<Joint>,
+    pub joints: Joints,
 }
 
 /// A design, in the order of its text.

@@ -4,7 +4,9 @@
 mod comps;
 mod design;
 mod fault;
+mod joints;
 mod names;
+mod near;
 mod nets;
 mod orient;
 mod part;
@@ -21,6 +23,7 @@ mod top_level;
 
 pub use crate::design::{Comp, Design, Joint, NetStatement, TopPin};
 pub use crate::fault::{DefFault, Section};
+pub use crate::joints::{JointIter, Joints};
 pub use crate::orient::Orient;
 pub use crate::place::Place;
 pub use crate::read::{faults_stay, limits_keep, read_def};

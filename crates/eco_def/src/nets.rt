@@ -11,6 +11,7 @@ ghost use Rattle.eco_def.specs.Sections.{IsPlaced, ArePlacedBetween, AreOfKind};
 
 use crate::design::{Joint, NetStatement};
 use crate::fault::DefFault;
+use crate::joints::Joints;
 use crate::names::Names;
 use crate::reader::Reader;
 use crate::room::Room;
@@ -58,7 +59,7 @@ impl<'a> Reader<'a> {
         self.joint()
     }
 
-    fn joints(&mut self, alloc: Global, room: usize) -> Result<Items<Joint>, DefFault>
+    fn joints(&mut self, alloc: Global, room: usize) -> Result<Joints, DefFault>
         ensures { Reads 0 joints_in (joints_within room) self.old self.new result }
     {
         let mut joints = Items::new(alloc);
@@ -66,8 +67,7 @@ impl<'a> Reader<'a> {
             let joint = self.next_joint(joints.len() < room)?;
             joints.push(joint)?;
         }
-        // A copy has no room to spare, and there are a million nets.
-        Ok(Items::from_slice(alloc, joints.as_slice())?)
+        Ok(Joints::of(alloc, joints.as_slice())?)
     }
 
     #[tactic(auto, unfolding(crate::specs::Grammar::some_use))]

@@ -1,3 +1,4 @@
+pub mod Walking
 pub mod Names
 pub mod Members
 pub mod Lookups

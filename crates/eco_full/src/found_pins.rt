@@ -14,7 +14,7 @@ use crate::fault::DesignFault;
 use crate::joined_pin::JoinedPin;
 use crate::macros::Macros;
 use crate::words::{bytes_at, is_no_component};
-use eco_def::{Comp, Joint, NetStatement};
+use eco_def::{Comp, Joint, Joints, NetStatement};
 use eco_net::{CompId, NetId, NetlistMaker};
 use std::alloc::Global;
 
@@ -108,7 +108,7 @@ fn add_joints<M: Macros>(
     text: &[u8],
     comps: &[Comp],
     macros: &M,
-    joints: &[Joint],
+    joints: &Joints,
     net: NetId,
 ) -> Result<(), DesignFault>
     requires numbers { comp_names maker.now ≡ map (λ c. c.name) (named_comps text.now comps.now) }
@@ -116,8 +116,8 @@ fn add_joints<M: Macros>(
     ensures ok { OnOk result (FindsPins (has_supply_pin (M.powers macros.now) (named_comps text.now comps.now)) maker.now (pins_among (net_name maker.now.nets net.0) (map (named_joint text.now) joints.now)) pins.old.items pins.new.items) }
     ensures err { IfErr result (PinFault (has_supply_pin (M.powers macros.now) (named_comps text.now comps.now)) (netlist maker.now) (pins_among (net_name maker.now.nets net.0) (map (named_joint text.now) joints.now))) }
 {
-    for joint in joints {
-        add_joint(pins, maker, text, comps, macros, joint, net)?;
+    for joint in joints.iter() {
+        add_joint(pins, maker, text, comps, macros, &joint, net)?;
     }
     Ok(())
 }
@@ -137,15 +137,7 @@ fn add_statement<M: Macros>(
     ensures err { IfErr result (PinFault (has_supply_pin (M.powers macros.now) (named_comps text.now comps.now)) (netlist maker.now) (pins_on (named_net text.now net.now))) }
 {
     match maker.find_net(bytes_at(text, net.name)) {
-        Some(number) => add_joints(
-            pins,
-            maker,
-            text,
-            comps,
-            macros,
-            net.joints.as_slice(),
-            number,
-        ),
+        Some(number) => add_joints(pins, maker, text, comps, macros, &net.joints, number),
         None => unreachable!(),
     }
 }

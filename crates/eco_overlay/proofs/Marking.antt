@@ -2,7 +2,7 @@
 use Rattle.std.specs.Str.{bytes_eq}
 use Rattle.std.specs.List.{list_any}
 use Rattle.std.specs.List.Sorted.{IsStrictlySortedBy}
-use Rattle.std.proofs.Common.{◌≡◌, ℕ, ◌+◌, ◌<◌, Bool, true, false, ◌&&◌, ◌||◌, List, [], ◌∷◌, length, map, take, get_or, refl, ap, sym, ◌∙◌, subst}
+use Rattle.std.proofs.Common.{◌≡◌, ℕ, ◌+◌, ◌<◌, Bool, true, false, ◌&&◌, ◌||◌, List, [], ◌∷◌, ◌++◌, length, map, take, get_or, refl, ap, sym, ◌∙◌, subst}
 use Rattle.std.proofs.Math.Path.{fun_ext}
 use Rattle.std.proofs.lemmas.List.{take_more}
 use Rattle.std.proofs.lemmas.List.Folds.{list_any-append}
@@ -51,15 +51,13 @@ statement_more false false true = refl
 statement_more false false false = refl
 
 -- one joint more
-pub one_marked_by : (text net : List ℕ) (js : List Joint) (i : ℕ) (d : Joint) (ms : List PinMove) → i < length js →
-    map (marked (names_in text (get_or js i d)) net) (map (marked_by text net (take i js)) ms) ≡ map (marked_by text net (take (i + 1) js)) ms
-one_marked_by text net js i d ms lt =
-    let j = get_or js i d in
-    map-map (marked (names_in text j) net) (marked_by text net (take i js)) ms
+pub one_marked_by : (text net : List ℕ) (js : List Joint) (j : Joint) (ms : List PinMove) →
+    map (marked (names_in text j) net) (map (marked_by text net js) ms) ≡ map (marked_by text net (js ++ j ∷ [])) ms
+one_marked_by text net js j ms =
+    map-map (marked (names_in text j) net) (marked_by text net js) ms
     ∙ ap (λ f. map f ms) (fun_ext (λ (m : PinMove). ap (λ b. let n : PinMove = record m { stands = b } in n)
-    (joint_more m.stands (bytes_eq net m.net.now) (list_any (λ k. is_of (new_joint m) (names_in text k)) (take i js)) (is_of (new_joint m) (names_in text j))
-    ∙ ap (λ b. m.stands || (bytes_eq net m.net.now && b)) (sym (list_any-append (λ k. is_of (new_joint m) (names_in text k)) (take i js) (j ∷ []))))))
-    ∙ ap (λ ks. map (marked_by text net ks) ms) (sym (take_more js i d lt))
+    (joint_more m.stands (bytes_eq net m.net.now) (list_any (λ k. is_of (new_joint m) (names_in text k)) js) (is_of (new_joint m) (names_in text j))
+    ∙ ap (λ b. m.stands || (bytes_eq net m.net.now && b)) (sym (list_any-append (λ k. is_of (new_joint m) (names_in text k)) js (j ∷ []))))))
 
 -- one statement more
 pub one_marked_in : (text : List ℕ) (ss : List NetStatement) (i : ℕ) (d : NetStatement) (ms : List PinMove) → i < length ss →

@@ -38,16 +38,9 @@ pub ends_are : (text : List ℕ) (at : ℕ) (js : List Joint) → joints_end at 
 ends_are text at [] = refl
 ends_are text at (j ∷ js) = ends_are text j.end js
 
-abbrev from_some : Option Joint → Joint → Joint
-from_some None j = j
-from_some (Some k) j = k
-
-pub last_is : (at : ℕ) (js : List Joint) (j : Joint) → Some j ≡ slice_get js (length js - 1) → j.end ≡ last_end at js
-last_is at [] j is = cc
-last_is at (k ∷ []) j is = ap (λ o. (from_some o j).end) is
-last_is at (k ∷ (l ∷ js)) j is =
-    let e : length (k ∷ (l ∷ js)) - 1 ≡ suc (length (l ∷ js) - 1) = omega arith in
-    last_is k.end (l ∷ js) j (is ∙ ap (slice_get (k ∷ (l ∷ js))) e)
+pub last_end_more : (at : ℕ) (js : List Joint) (j : Joint) → last_end at (js ++ j ∷ []) ≡ j.end
+last_end_more at [] j = refl
+last_end_more at (k ∷ js) j = last_end_more k.end js j
 
 pub ok_items : {T E : Type 0} (r : Result T E) (x a b : List ℕ) → x ≡ (if is_ok r then a else b) → OnOk r (x ≡ a)
 ok_items (Ok y) x a b is = is

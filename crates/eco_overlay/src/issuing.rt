@@ -79,7 +79,7 @@ fn stays_whole(text: &[u8], net: &NetStatement, changes: &NetChanges<'_>) -> boo
 {
     let name = bytes_at(text, net.name);
     !statement_gets_pins(changes, net.special, name)
-        && all_stay(text, net.joints.as_slice(), &changes.moves, name)
+        && all_stay(text, &net.joints, &changes.moves, name)
 }
 
 /// Adds the edit of a statement of one section, where it changes.

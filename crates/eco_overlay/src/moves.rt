@@ -7,7 +7,7 @@ ghost use Rattle.eco_issued.specs.Changes.{stays_on};
 ghost use Rattle.eco_overlay.specs.PinMoves.{new_joint, moved_pin, pin_cmp, names_in, ArePinsApart, AreInOrder, IsPlaceOf};
 
 use crate::pin_move::PinMove;
-use eco_def::Joint;
+use eco_def::{Joint, Joints};
 use eco_full::{bytes_at, is_no_component};
 use std::cmp::Ordering;
 
@@ -57,9 +57,9 @@ pub fn stays(text: &[u8], joint: Joint, moves: &[PinMove<'_>], net: &[u8]) -> bo
 }
 
 /// Whether all of them stay.
-pub fn all_stay(text: &[u8], joints: &[Joint], moves: &[PinMove<'_>], net: &[u8]) -> bool
+pub fn all_stay(text: &[u8], joints: &Joints, moves: &[PinMove<'_>], net: &[u8]) -> bool
     requires { AreInOrder moves.now }
     ensures { result ≡ list_all (λ j. stays_on (map new_joint moves.now) net.now (names_in text.now j)) joints.now }
 {
-    joints.iter().all(|joint| stays(text, *joint, moves, net))
+    joints.iter().all(|joint| stays(text, joint, moves, net))
 }

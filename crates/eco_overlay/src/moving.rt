@@ -16,7 +16,7 @@ use crate::fault::MoveFault;
 use crate::issuing::overlay_of;
 use crate::overlay::Overlay;
 use crate::pin_move::PinMove;
-use eco_def::{Comp, Design, Joint, NetStatement, TopPin};
+use eco_def::{Comp, Design, Joint, Joints, NetStatement, TopPin};
 use eco_full::{bytes_at, is_no_component};
 use std::alloc::{AllocError, Global};
 
@@ -27,16 +27,16 @@ fn is_of(text: &[u8], joint: Joint, pin: &PinMove<'_>) -> bool
     !is_no_component(comp) && (pin.comp == comp && pin.pin == bytes_at(text, joint.pin))
 }
 
-fn has_joint(text: &[u8], joints: &[Joint], pin: &PinMove<'_>) -> bool
+fn has_joint(text: &[u8], joints: &Joints, pin: &PinMove<'_>) -> bool
     ensures { result ≡ list_any (λ j. of_pin (new_joint pin.now) (names_in text.now j)) joints.now }
 {
-    joints.iter().any(|joint| is_of(text, *joint, pin))
+    joints.iter().any(|joint| is_of(text, joint, pin))
 }
 
 fn is_statement_with(text: &[u8], net: &NetStatement, pin: &PinMove<'_>) -> bool
     ensures { result ≡ (bytes_eq (word_bytes text.now net.now.name) pin.now.net.now && list_any (λ j. of_pin (new_joint pin.now) (names_in text.now j)) net.now.joints) }
 {
-    bytes_at(text, net.name) == pin.net && has_joint(text, net.joints.as_slice(), pin)
+    bytes_at(text, net.name) == pin.net && has_joint(text, &net.joints, pin)
 }
 
 /// Whether some statement of the pin's net has its joint.

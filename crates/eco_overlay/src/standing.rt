@@ -6,7 +6,7 @@ ghost use Rattle.eco_overlay.specs.PinMoves.{names_in, marked, marked_by, marked
 
 use crate::moves::place_of;
 use crate::pin_move::PinMove;
-use eco_def::{Joint, NetStatement};
+use eco_def::{Joint, Joints, NetStatement};
 use eco_full::{bytes_at, is_no_component};
 
 /// Marks the move of a joint of a net, where it stands on that net.
@@ -26,12 +26,12 @@ fn mark_joint(text: &[u8], joint: Joint, net: &[u8], moves: &mut [PinMove<'_>])
 }
 
 /// Marks the moves of the joints of a net's statement that stand on that net.
-fn mark_joints(text: &[u8], joints: &[Joint], net: &[u8], moves: &mut [PinMove<'_>])
+fn mark_joints(text: &[u8], joints: &Joints, net: &[u8], moves: &mut [PinMove<'_>])
     requires { AreInOrder moves.old }
     ensures { moves.new ≡ map (marked_by text.now net.now joints.now) moves.old }
 {
-    for joint in joints {
-        mark_joint(text, *joint, net, moves);
+    for joint in joints.iter() {
+        mark_joint(text, joint, net, moves);
     }
 }
 
@@ -41,6 +41,6 @@ pub fn mark_standing(text: &[u8], nets: &[NetStatement], moves: &mut [PinMove<'_
     ensures { moves.new ≡ map (marked_in text.now nets.now) moves.old }
 {
     for net in nets {
-        mark_joints(text, net.joints.as_slice(), bytes_at(text, net.name), moves);
+        mark_joints(text, &net.joints, bytes_at(text, net.name), moves);
     }
 }

@@ -14,7 +14,7 @@ use crate::coming::goes_to_ordinary;
 use crate::moves::stays;
 use crate::net_changes::{Added, NetChanges};
 use crate::pin_move::PinMove;
-use eco_def::{Joint, NetStatement};
+use eco_def::{Joint, Joints, NetStatement};
 use eco_full::bytes_at;
 use eco_text::between;
 use std::alloc::AllocError;
@@ -40,15 +40,15 @@ fn put_joint(
 fn put_joints(
     bytes: &mut Vec<u8>,
     text: &[u8],
-    joints: &[Joint],
+    joints: &Joints,
     moves: &[PinMove<'_>],
     net: &[u8],
 ) -> Result<(), AllocError>
     requires { AreInOrder moves.now }
     ensures { OnOk result (bytes.new.items ≡ bytes.old.items ++ flat_map (λ j. kept_text text.now (stays_on (map new_joint moves.now) net.now) (joint_in text.now j)) joints.now) }
 {
-    for joint in joints {
-        put_joint(bytes, text, *joint, moves, net)?;
+    for joint in joints.iter() {
+        put_joint(bytes, text, joint, moves, net)?;
     }
     Ok(())
 }
@@ -96,13 +96,15 @@ fn put_added(
 }
 
 /// The end of a statement's last joint, or of its name.
+#[tactic(auto, using(crate::proofs::Writing::last_end_more))]
 fn joints_end(net: &NetStatement) -> u32
     ensures { result ≡ last_end net.now.name.end net.now.joints }
 {
-    match net.joints.as_slice().last() {
-        Some(joint) => joint.end,
-        None => net.name.end,
+    let mut end = net.name.end;
+    for joint in net.joints.iter() {
+        end = joint.end;
     }
+    end
 }
 
 /// Appends all clauses of a statement of SPECIALNETS, or the use of one of NETS, and the end.
@@ -130,7 +132,7 @@ pub fn put_statement(
 {
     let name = bytes_at(text, net.name);
     put(bytes, &[b"- ", name])?;
-    put_joints(bytes, text, net.joints.as_slice(), &changes.moves, name)?;
+    put_joints(bytes, text, &net.joints, &changes.moves, name)?;
     put_added(bytes, changes, net.special, name)?;
     put_tail(bytes, text, net)
 }

@@ -11,3 +11,4 @@ pub mod Parts
 pub mod Order
 pub mod Told
 pub mod Listed
+mod Walked

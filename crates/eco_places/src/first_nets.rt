@@ -8,7 +8,7 @@ ghost use Rattle.eco_places.specs.Places.{joint_place, joints_among, top_place, 
 
 use crate::placed_pin::{PlacedPin, joint_at, top_at};
 use crate::side::{Side, pins_start, stands_there};
-use eco_def::{Design, Joint, NetStatement, TopPin};
+use eco_def::{Design, Joints, NetStatement, TopPin};
 use std::alloc::{AllocError, Global};
 use std::collections::HashMap;
 
@@ -30,12 +30,12 @@ fn add_joints<'a>(
     nets: &mut FirstNets<'a>,
     text: &'a [u8],
     net: &NetStatement,
-    joints: &[Joint],
+    joints: &Joints,
 ) -> Result<(), AllocError>
     ensures { OnOk result (AddsPlaces nets.old nets.new (map (joint_place text.now net.now) joints.now)) }
 {
-    for joint in joints {
-        let place = joint_at(text, net, joint);
+    for joint in joints.iter() {
+        let place = joint_at(text, net, &joint);
         add_place(nets, &place)?;
     }
     Ok(())
@@ -50,7 +50,7 @@ fn add_statement<'a>(
     ensures { OnOk result (AddsPlaces nets.old nets.new (joints_among text.now (filter (takes side) (net.now ∷ [])))) }
 {
     if stands_there(side, net) {
-        add_joints(nets, text, net, net.joints.as_slice())
+        add_joints(nets, text, net, &net.joints)
     } else {
         Ok(())
     }

@@ -9,7 +9,7 @@ ghost use Rattle.eco_places.specs.Places.{joint_place, joints_among, top_place, 
 use crate::place_test::PlaceTest;
 use crate::placed_pin::{PlacedPin, joint_at, top_at};
 use crate::side::{Side, pins_start, stands_there};
-use eco_def::{Design, Joint, NetStatement, TopPin};
+use eco_def::{Design, Joints, NetStatement, TopPin};
 use eco_func::Memory;
 
 /// The first of a statement's joints that passes.
@@ -17,12 +17,12 @@ fn first_of_joints<'a, T: PlaceTest>(
     test: &T,
     text: &'a [u8],
     net: &NetStatement,
-    joints: &[Joint],
+    joints: &Joints,
 ) -> Result<Option<PlacedPin<'a>>, Memory>
     ensures { IfOk result (λ o. option_map place_by o ≡ find (T.passes test.now) (map (joint_place text.now net.now) joints.now)) }
 {
-    for joint in joints {
-        let place = joint_at(text, net, joint);
+    for joint in joints.iter() {
+        let place = joint_at(text, net, &joint);
         let passes = test.test(&place)?;
         if passes {
             return Ok(Some(place));
@@ -41,7 +41,7 @@ fn first_of_statement<'a, T: PlaceTest>(
     ensures { IfOk result (λ o. option_map place_by o ≡ find (T.passes test.now) (joints_among text.now (filter (takes side) (net.now ∷ [])))) }
 {
     if stands_there(side, net) {
-        first_of_joints(test, text, net, net.joints.as_slice())
+        first_of_joints(test, text, net, &net.joints)
     } else {
         Ok(None)
     }

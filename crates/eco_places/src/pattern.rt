@@ -17,7 +17,7 @@ use crate::known_pins::model_has;
 use crate::placed_pin::{PlacedPin, joint_at};
 use crate::unknown::is_for_every;
 use crate::words::is_any;
-use eco_def::{Comp, Design, Joint, NetStatement};
+use eco_def::{Comp, Design, Joints, NetStatement};
 use eco_full::{Macros, bytes_at};
 use eco_func::{Memory, Name};
 use std::alloc::{AllocError, Global};
@@ -108,14 +108,14 @@ fn first_of_joints<'a, M: Macros>(
     models: &[&[u8]],
     text: &'a [u8],
     net: &NetStatement,
-    joints: &[Joint],
+    joints: &Joints,
 ) -> Result<Option<PlacedPin<'a>>, Memory>
     requires { AreCleared (M.kinds macros.now) models.now cleared.old }
     ensures found { IfOk result (λ o. option_map place_by o ≡ find (is_pattern_on (M.kinds macros.now) models.now) (map (joint_place text.now net.now) joints.now)) }
     ensures cleared { OnOk result (AreCleared (M.kinds macros.now) models.now cleared.new) }
 {
-    for joint in joints {
-        let place = joint_at(text, net, joint);
+    for joint in joints.iter() {
+        let place = joint_at(text, net, &joint);
         let passes = is_pattern(cleared, macros, models, &place)?;
         if passes {
             return Ok(Some(place));
@@ -137,7 +137,7 @@ fn first_of_statement<'a, M: Macros>(
     ensures cleared { OnOk result (AreCleared (M.kinds macros.now) models.now cleared.new) }
 {
     if net.special {
-        first_of_joints(cleared, macros, models, text, net, net.joints.as_slice())
+        first_of_joints(cleared, macros, models, text, net, &net.joints)
     } else {
         Ok(None)
     }
@@ -163,7 +163,7 @@ fn first_on_models<'a, M: Macros>(
     Ok(None)
 }
 
-fn any_every(text: &[u8], joints: &[Joint]) -> bool
+fn any_every(text: &[u8], joints: &Joints) -> bool
     ensures { result ≡ list_any (λ j. bytes_eq (word_bytes text.now j.comp) every_word) joints.now }
 {
     joints
@@ -175,7 +175,7 @@ fn any_every(text: &[u8], joints: &[Joint]) -> bool
 fn has_every(text: &[u8], net: &NetStatement) -> bool
     ensures { result ≡ (net.now.special && list_any (λ j. bytes_eq (word_bytes text.now j.comp) every_word) net.now.joints) }
 {
-    net.special && any_every(text, net.joints.as_slice())
+    net.special && any_every(text, &net.joints)
 }
 
 /// Whether SPECIALNETS has a joint of `*`.

@@ -50,9 +50,8 @@ fn are_right(tops: &Tops<'_>, text: &[u8], net: &NetStatement) -> bool
 {
     let name = bytes_at(text, net.name);
     net.joints
-        .as_slice()
         .iter()
-        .all(|joint| joint_is_right(tops, text, net, joint, name))
+        .all(|joint| joint_is_right(tops, text, net, &joint, name))
 }
 
 /// Whether all joints of the statements are.

@@ -1,7 +1,7 @@
 //! DEF designs.
 
 use crate::line::{push_bytes, repeated};
-use eco_def::{Comp, DefFault, Design, Joint, NetStatement, TopPin, read_def};
+use eco_def::{Comp, DefFault, Design, Joints, NetStatement, TopPin, read_def};
 use eco_text::{Word, between};
 use std::alloc::Global;
 use std::process::Abort;
@@ -129,8 +129,8 @@ fn push_pins(line: &mut String, text: &str, pins: &[TopPin]) -> Result<(), Fail>
 }
 
 /// Puts joints behind a line, each with its text.
-fn push_joints(line: &mut String, text: &str, joints: &[Joint]) -> Result<(), Fail> {
-    for joint in joints {
+fn push_joints(line: &mut String, text: &str, joints: &Joints) -> Result<(), Fail> {
+    for joint in joints.iter() {
         push_word(line, text, joint.comp)?;
         push_word(line, text, joint.pin)?;
         line.push_str(" <")?;
@@ -148,7 +148,7 @@ fn push_net(line: &mut String, text: &str, net: &NetStatement) -> Result<(), Fai
         line.push_str(" use")?;
         push_word(line, text, usage)?;
     }
-    push_joints(line, text, net.joints.as_slice())?;
+    push_joints(line, text, &net.joints)?;
     line.push_str(" <")?;
     push_bytes(line, between(text.as_bytes(), net.start, net.end))?;
     line.push_str(">")?;
@@ -203,6 +203,48 @@ const DESIGNS: [(&str, &str); 4] = [
 fn the_parts_of_a_design(rt: HostRuntime) -> Result<(), Fail> {
     for (text, wanted) in DESIGNS {
         assert_eq!(rt; parts_of(rt.alloc(), text)?.as_str(), wanted, "{text}");
+    }
+    Ok(())
+}
+
+/// A joint with its component and its pin, and what stands before it.
+#[derive(Drop)]
+struct Joined<'a>(&'a str, String, &'a str, &'a str);
+
+/// Joints with blanks or a long name at one place.
+fn stretched<'a>(alloc: Global, blanks: &'a str, name: &'a str) -> Result<[Joined<'a>; 5], Fail> {
+    Ok([
+        Joined(blanks, String::from_str(alloc, "( u A )")?, "u", "A"),
+        Joined("", format!(in alloc; "({blanks}u A )")?, "u", "A"),
+        Joined("", format!(in alloc; "( {name} A )")?, name, "A"),
+        Joined("", format!(in alloc; "( u{blanks}{name} )")?, "u", name),
+        Joined("", format!(in alloc; "( u A{blanks})")?, "u", "A"),
+    ])
+}
+
+/// The parts of a design of one net with this joint between two others, and those that are wanted.
+fn among_others(alloc: Global, joined: &Joined<'_>) -> Result<(String, String), Fail> {
+    let Joined(before, joint, comp, pin) = joined;
+    let net = format!(in alloc; "- a ( v B ) {before}{joint} ( w C ) ;")?;
+    let text = format!(in alloc;
+        "UNITS DISTANCE MICRONS 1 ; COMPONENTS 0 ; END COMPONENTS NETS 1 ; {net} END NETS END DESIGN"
+    )?;
+    let wanted = format!(in alloc;
+        "1 net a v B <( v B )> {comp} {pin} <{joint}> w C <( w C )> <{net}> 1 END NETS"
+    )?;
+    Ok((parts_of(alloc, text.as_str())?, wanted))
+}
+
+#[test]
+fn joints_whose_words_are_near_and_far(rt: HostRuntime) -> Result<(), Fail> {
+    let alloc = rt.alloc();
+    for width in [1, 254, 255, 256, 70_000] {
+        let blanks = repeated(alloc, " ", width)?;
+        let name = repeated(alloc, "n", width)?;
+        for joined in &stretched(alloc, &blanks, &name)? {
+            let (found, wanted) = among_others(alloc, joined)?;
+            assert_eq!(rt; found, wanted, "{width}");
+        }
     }
     Ok(())
 }

@@ -1,4 +1,4 @@
-use Rattle.std.proofs.Common.{◌≡◌, ◌∙◌, Bool, List, OnOk, IfErr, map, subst}
+use Rattle.std.proofs.Common.{◌≡◌, ◌∙◌, Bool, List, OnOk, IfErr, map, refl, subst}
 use Rattle.eco_issued.specs.Changes.{NewJoint}
 use Rattle.eco_net.specs.Netlist.{Name}
 use Rattle.eco_net.specs.Listing.{netlist, net_name}
@@ -8,8 +8,8 @@ use Rattle.eco_full.proofs.FindingPins.{number_named, statement_pins}
 use Rattle.eco_full.proofs.found_pins.add_statement.Given as given
 use Rattle.eco_full.proofs.found_pins.add_statement.Goals as goal
 
-pins : (g : given.Over) (c : goal.After-add_joints g) → pins_among (net_name c.args.maker.now.nets c.in-Some.number.0) (map (named_joint c.args.text.now) c.as_slice.result.now) ≡ pins_on (named_net c.args.text.now c.args.net.now)
-pins g c = statement_pins c.args.text.now c.args.net.now _ _ (number_named c.args.maker.now c.in-Some.number.0 _ c.in-Some.ensures ∙ c.bytes_at.ensures) c.as_slice.ensures
+pins : (g : given.Over) (c : goal.After-add_joints g) → pins_among (net_name c.args.maker.now.nets c.in-Some.number.0) (map (named_joint c.args.text.now) c.args.net.now.joints) ≡ pins_on (named_net c.args.text.now c.args.net.now)
+pins g c = statement_pins c.args.text.now c.args.net.now _ _ (number_named c.args.maker.now c.in-Some.number.0 _ c.in-Some.ensures ∙ c.bytes_at.ensures) refl
 
 pub returns-clause-ok : goal.returns-clause-ok
 returns-clause-ok g c =

@@ -19,4 +19,4 @@ returns-then-not-statement_gets_pins c =
     let pins = pins_for c.args.changes.now s.special name in
     let none : is_nil (map moved_pin pins) ≡ true = nil_map moved_pin pins ∙ nothing_comes (is_nil pins) c.statement_gets_pins.result (rw c.bytes_at-name.ensures at c.statement_gets_pins.ensures) c.if-not-statement_gets_pins.true in
     and_on c.all_stay.result (list_all (λ j. stays_on ns name (joint_names j)) (map (joint_in text) s.joints)) (is_nil (map moved_pin pins))
-    ((rw (c.bytes_at-name.ensures, c.as_slice.ensures, c.deref.ensures.value) at c.all_stay.ensures) ∙ sym (list_all-map (λ j. stays_on ns name (joint_names j)) (joint_in text) s.joints)) none
+    ((rw (c.bytes_at-name.ensures, c.deref.ensures.value) at c.all_stay.ensures) ∙ sym (list_all-map (λ j. stays_on ns name (joint_names j)) (joint_in text) s.joints)) none

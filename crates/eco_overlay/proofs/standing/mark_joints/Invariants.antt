@@ -1,7 +1,7 @@
-use Rattle.std.proofs.Common.{◌≡◌, map, take}
+use Rattle.std.proofs.Common.{◌≡◌, map}
 use Rattle.eco_overlay.specs.PinMoves.{marked_by}
 use Rattle.eco_overlay.proofs.standing.mark_joints.Given as goal
 
 -- the moves as the joints so far have marked them
 abbrev pub invariant-loop-joint : goal.invariant-loop-joint
-invariant-loop-joint l = l.moves ≡ map (marked_by l.text l.net (take l.joint-index l.joints)) l.initial.moves
+invariant-loop-joint l = l.moves ≡ map (marked_by l.text l.net l.yielded) l.initial.moves

@@ -17,5 +17,5 @@ loop-net-preserved c =
     let ss = c.args.nets.now in
     let i = c.loop-net.net-index in
     let at = one_marked_in c.args.text.now ss i s c.args.moves.now c.loop-net-test.true in
-    rw (c.as_slice.ensures, c.bytes_at.ensures) at c.mark_joints.ensures ∙ ap (map (marked_by c.args.text.now (word_bytes c.args.text.now s.name) s.joints)) c.loop-net.invariant
+    rw c.bytes_at.ensures at c.mark_joints.ensures ∙ ap (map (marked_by c.args.text.now (word_bytes c.args.text.now s.name) s.joints)) c.loop-net.invariant
     ∙ ap (λ t. map (marked_by c.args.text.now (word_bytes c.args.text.now t.name) t.joints) (map (marked_in c.args.text.now (take i ss)) c.args.moves.now)) c.net-item.is ∙ at

@@ -1,4 +1,4 @@
-use Rattle.std.proofs.Common.{◌≡◌, ◌++◌, map, take}
+use Rattle.std.proofs.Common.{◌≡◌, ◌++◌, map}
 use Rattle.std.specs.List.{flat_map}
 use Rattle.eco_def.specs.View.{joint_in}
 use Rattle.eco_issued.specs.Changes.{stays_on}
@@ -8,4 +8,4 @@ use Rattle.eco_overlay.proofs.statement.put_joints.Given as goal
 
 -- the joints so far
 abbrev pub invariant-loop-joint : goal.invariant-loop-joint
-invariant-loop-joint l = l.bytes.items ≡ l.initial.bytes.items ++ flat_map (λ j. kept_text l.text (stays_on (map new_joint l.moves) l.net) (joint_in l.text j)) (take l.joint-index l.joints)
+invariant-loop-joint l = l.bytes.items ≡ l.initial.bytes.items ++ flat_map (λ j. kept_text l.text (stays_on (map new_joint l.moves) l.net) (joint_in l.text j)) l.yielded

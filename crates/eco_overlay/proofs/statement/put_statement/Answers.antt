@@ -26,7 +26,7 @@ returns c =
     on_ok c.put_tail.result
     (λ last. put_four (old ++ head) joints added tail c.put.new.bytes.items c.put_joints.new.bytes.items c.put_added.new.bytes.items c.put_tail.new.bytes.items
     (rw c.bytes_at-name.ensures at c.in_ok-put.ensures)
-    ((rw (c.bytes_at-name.ensures, c.as_slice.ensures, c.deref.ensures.value) at c.in_ok-put_joints.ensures) ∙ ap (λ k. c.put.new.bytes.items ++ k) (sym (flat_map-map (kept_text text (stays_on ns name)) (joint_in text) s.joints)))
+    ((rw (c.bytes_at-name.ensures, c.deref.ensures.value) at c.in_ok-put_joints.ensures) ∙ ap (λ k. c.put.new.bytes.items ++ k) (sym (flat_map-map (kept_text text (stays_on ns name)) (joint_in text) s.joints)))
     ((rw c.bytes_at-name.ensures at c.in_ok-put_added.ensures) ∙ ap (λ k. c.put_joints.new.bytes.items ++ k) (spaced_pins pins)) last
     ∙ append_assoc old head (joints ++ (added ++ tail)))
     c.put_tail.ensures
