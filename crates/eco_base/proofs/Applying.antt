@@ -29,7 +29,7 @@ use Rattle.eco_patch.specs.Patches.{IsPatch}
 use Rattle.eco_patch.proofs.Alone.{is_patch}
 use Rattle.eco_patch.proofs.Patches.{same_valuations, means_same}
 use Rattle.eco_patch.proofs.Taking.{base_takes_joints}
-use Rattle.eco_opening.specs.Texts.{TextParts, IsLibrary}
+use Rattle.eco_opening.specs.Texts.{TextParts}
 use Rattle.eco_opening.specs.Joined.{kinds, design_names}
 use Rattle.eco_opening.specs.Bases.{BaseParts, IsOpen, frozen, full_netlist}
 use Rattle.eco_opening.proofs.OpenBases.{open_is_base}
@@ -75,11 +75,11 @@ module _ (b : BaseParts) (open' : IsOpen b) where
       (y.0.0, contains_from_has d.comps y.0.0 y.1, y.2, ap can_name (sym y.2 ∙ sym (ap (λ z. z.name) w.2)) ∙ named)
 
   -- so can a pin's
-  comp_pin : (lef : List ℕ) → IsLibrary lef t.library → (c p : Name) (x : Component) → get (full_netlist t).comps c ≡ Some x → IsPin x p → can_name p ≡ true
-  comp_pin lef library c p x e r =
+  comp_pin : (c p : Name) (x : Component) → get (full_netlist t).comps c ≡ Some x → IsPin x p → can_name p ≡ true
+  comp_pin c p x e r =
       let y = comp_said (kinds t) ties d c x e in
       let same : x.kind ≡ y.0.1 = ap (λ z. z.kind) (sym y.4) in
-      pin_can_name t open'.joined.masters lef library y.0.0 y.0.1 p y.1 y.3 (has_found (pins_of y.0.1) p r.0 (ap (λ k. find name_cmp p (pins_of k)) (sym same) ∙ r.1))
+      pin_can_name t open'.joined.masters open'.read.words y.0.0 y.0.1 p y.1 y.3 (has_found (pins_of y.0.1) p r.0 (ap (λ k. find name_cmp p (pins_of k)) (sym same) ∙ r.1))
 
   -- ---- the order
 
@@ -125,7 +125,7 @@ module _ (b : BaseParts) (open' : IsOpen b) where
 
     -- ---- on a plain base
 
-    module _ (lef : List ℕ) (library : IsLibrary lef t.library) (plain : IsPlain t) where
+    module _ (plain : IsPlain t) where
       joint_of : (j : NewJoint) → Has news j → (k : Joint) × Contains joints k × (new_joint k ≡ j)
       joint_of j h = let k = has_of_map new_joint joints j h in (k.0, contains_from_has joints k.0 k.1, k.2)
 
@@ -160,7 +160,7 @@ module _ (b : BaseParts) (open' : IsOpen b) where
           (each_of (λ (p : TopPin). bytes_eq p.net.bytes (codes "MUSTJOIN") ≡ false) design.pins no_mustjoin)
           (each_of (λ n. (can_name n.comp ≡ true) × (can_name n.pin ≡ true)) news (λ j h.
           let x = joint_pin j h in
-          ((comp_name j.comp x.0 x.1).3, comp_pin lef library j.comp j.pin x.0 x.1 x.2)))
+          ((comp_name j.comp x.0 x.1).3, comp_pin j.comp j.pin x.0 x.1 x.2)))
           (new_one, tt)
           (tt, tt)
         where
@@ -183,5 +183,5 @@ one_gate_applies b one open' spare good embedded overlay is =
       issued = is;
       computes = same_valuations (frozen b.texts) [] (λ g. None) (order_of one) (placement one spare.output ∷ []) is_patch;
       means = means_same (frozen b.texts) [] (λ g. None) (order_of one) (placement one spare.output ∷ []) is_patch;
-      back = λ lef library plain. reads b open' one spare good embedded lef library plain overlay is;
+      back = λ plain. reads b open' one spare good embedded plain overlay is;
     }

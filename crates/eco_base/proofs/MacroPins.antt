@@ -16,8 +16,6 @@ use Rattle.eco_lef.specs.declared.master.Master.{Master}
 use Rattle.eco_lef.specs.declared.master.MasterPin.{MasterPin}
 use Rattle.eco_lef.specs.Collected.{find_master}
 use Rattle.eco_lef.specs.Names.{are_words, can_name as is_lef_name}
-use Rattle.eco_lef.proofs.Limits.{limits_keep}
-use Rattle.eco_lef.proofs.WordNames.{read_names}
 use Rattle.eco_issued.specs.ReadingBack.{can_name}
 use Rattle.eco_net.specs.Netlist.{Name, Kind, Gate, Boxed, Role, Reads, Computes, Outside}
 use Rattle.eco_net.specs.Listing.{bits_of}
@@ -29,7 +27,7 @@ use Rattle.eco_masters.specs.Tables.{library_pins, signal_pins, kind_by, kind_in
 use Rattle.eco_masters.specs.Differing.{function_pins, uses}
 use Rattle.eco_masters.specs.Odd.{has_pin}
 use Rattle.eco_masters.proofs.OddPins.{pin_has, has_a_pin}
-use Rattle.eco_opening.specs.Texts.{TextParts, IsLibrary}
+use Rattle.eco_opening.specs.Texts.{TextParts}
 use Rattle.eco_opening.specs.Joined.{kinds, design_names, MastersFit}
 
 -- ---- names
@@ -39,10 +37,6 @@ lef_name_is : (n : Name) → is_lef_name n ≡ can_name n
 lef_name_is [] = refl
 lef_name_is (b ∷ []) = refl
 lef_name_is (b ∷ c ∷ bs) = refl
-
--- the names of a library's masters and of their pins are words
-library_words : (lef : List ℕ) (masters : List Master) → IsLibrary lef masters → list_all are_words masters ≡ true
-library_words lef masters is = read_names lef masters (limits_keep.few 16384 lef masters is).0
 
 pin_words : (masters : List Master) (m : Master) (p : MasterPin) (n : Name) → list_all are_words masters ≡ true → Has masters m → Has m.pins p → p.name ≡ n → can_name n ≡ true
 pin_words masters m p n all h g same =
@@ -124,10 +118,10 @@ module _ (t : TextParts) (fit : MastersFit t) where
           (cases_Bool (has_pin m n f.0))
 
   -- so they can be printed
-  pub pin_can_name : (lef : List ℕ) → IsLibrary lef t.library → (c : NamedComp) (k : Kind) (n : Name) → Has (design_names t).comps c → kinds t c.model ≡ Some k → Has (pin_names k) n → can_name n ≡ true
-  pin_can_name lef library c k n h e has =
+  pub pin_can_name : list_all are_words t.library ≡ true → (c : NamedComp) (k : Kind) (n : Name) → Has (design_names t).comps c → kinds t c.model ≡ Some k → Has (pin_names k) n → can_name n ≡ true
+  pin_can_name words c k n h e has =
       let m = mapped_some (kind_in t.functions) (find_master c.model t.library) k e in
       let found = found_passes (λ (m : Master). bytes_eq m.name c.model) t.library m.0 m.1 in
       let d = macro_pin c m.0 n h found.0 ((bytes_eq-Decides m.0.name c.model).0 found.1) (subst (λ k. Has (pin_names k) n) (sym m.2) has) in
       let p = library_pin m.0 n d.0 d.1 in
-      pin_words t.library m.0 p.0 n (library_words lef t.library library) found.0 p.1 p.2
+      pin_words t.library m.0 p.0 n words found.0 p.1 p.2

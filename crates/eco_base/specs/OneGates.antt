@@ -27,7 +27,7 @@ use Rattle.eco_patch.specs.Embeddings.{Embeds}
 use Rattle.eco_patch.specs.Bases.{Base, bare}
 use Rattle.eco_patch.specs.Lone.{lone_order}
 use Rattle.eco_patch.specs.Meaning.{SameMeaning}
-use Rattle.eco_opening.specs.Texts.{TextParts, IsLibrary}
+use Rattle.eco_opening.specs.Texts.{TextParts}
 use Rattle.eco_opening.specs.Joined.{kinds}
 use Rattle.eco_opening.specs.Bases.{frozen}
 use Rattle.eco_base.specs.declared.one_gate.OneGate.{OneGate}
@@ -113,9 +113,9 @@ pub record ReadsBackTo (t : TextParts) (overlay : List Edit) (N : Netlist) : Typ
 
 -- The overlay issues the text with the spare's pins on their nets. The netlist with the gate and that with the spare have the
 -- same valuations and mean the same: for each choice of cut bits one value at each output and register input. On a plain base
--- whose masters are those of a LEF text, as an opened base's are, the issued text reads back to the netlist with the spare.
+-- the issued text reads back to the netlist with the spare.
 pub record IsApplied (t : TextParts) (one : OneGate) (output : Name) (overlay : List Edit) : Type 0 where
   pub issued : IsOverlayOf t.text (design_in t.text t.design) (one_joints (frozen t) one output) (one.output ∷ []) overlay
   pub computes : ComputesSame (frozen t) one output
   pub means : SameMeaning (patched (frozen t) one) (with_spare (frozen t) one output)
-  pub back : (lef : List ℕ) → IsLibrary lef t.library → IsPlain t → ReadsBackTo t overlay (with_spare (frozen t) one output)
+  pub back : IsPlain t → ReadsBackTo t overlay (with_spare (frozen t) one output)

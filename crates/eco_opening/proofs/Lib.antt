@@ -1,3 +1,4 @@
+pub mod LibraryWords
 pub mod ReadingFaults
 pub mod Clean
 pub mod Fitting

@@ -1,9 +1,9 @@
 -- The four texts of a base, read.
 use Rattle.std.specs.Prelude.{◌≡◌, ℕ, true, List, Ok}
-use Rattle.std.specs.List.{All}
+use Rattle.std.specs.List.{All, list_all}
 use Rattle.eco_lef.specs.declared.master.Master.{Master}
 use Rattle.eco_lef.specs.Grammar.{library_within}
-use Rattle.eco_lef.specs.Names.{HaveOwnNames}
+use Rattle.eco_lef.specs.Names.{HaveOwnNames, are_words}
 use Rattle.eco_def.specs.declared.design.Design.{Design}
 use Rattle.eco_def.specs.Sections.{IsReadingOf}
 use Rattle.eco_func.specs.Masters.{MasterTables, is_master}
@@ -19,11 +19,12 @@ pub record TextParts : Type 0 where
   pub functions : List MasterTables
   pub desk : Desk
 
--- The design is the text's reading. No two masters of the library have one name, and no two pins of a master. Each of the
--- functions makes a master.
+-- The design is the text's reading. No two masters of the library have one name, and no two pins of a master; all these names
+-- are words. Each of the functions makes a master.
 pub record AreRead (t : TextParts) : Type 0 where
   pub reading : IsReadingOf t.text t.design
   pub own_names : HaveOwnNames t.library
+  pub words : list_all are_words t.library ≡ true
   pub masters : All (λ m. is_master m.inputs m.outputs ≡ true) t.functions
 
 -- the masters of a LEF text
