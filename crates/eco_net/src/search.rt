@@ -118,7 +118,8 @@ impl Netlist {
         let row = self.listed.comp(comp.0);
         for pin in 0..row.kind.input_count() {
             if let Some(input) = row.joined.get(pin) {
-                if self.gate_of(input).is_some() && !marks[input as usize].is_done() {
+                // The marks are small, so that they are asked first.
+                if !marks[input as usize].is_done() && self.gate_of(input).is_some() {
                     return Some(input);
                 }
             }
@@ -199,7 +200,7 @@ impl Netlist {
         ensures seen { OnOk result (IsComputedNet self.now net → IsMark search.new.marks.items net Unseen → ⊥) }
         ensures stop { IfErr result (λ e. StopIs self.now e) }
     {
-        if self.gate_of(net).is_none() || !search.marks[net as usize].is_unseen() {
+        if !search.marks[net as usize].is_unseen() || self.gate_of(net).is_none() {
             return Ok(());
         }
         self.settle(alloc, search, net)

@@ -66,8 +66,8 @@ fn check_loops(alloc: Global, net: &Netlist) -> Result<(), BaseFault>
     ensures free { OnOk result (IsLoopFree (netlist net.now)) }
     ensures fault { IfErr result (BlamesLoop (netlist net.now)) }
 {
-    match net.levels(alloc) {
-        Ok(_) => Ok(()),
+    match net.check_loops(alloc) {
+        Ok(()) => Ok(()),
         Err(LoopFault::Loop { nets }) => Err(BaseFault::Loop { nets }),
         Err(LoopFault::Memory) => Err(BaseFault::Memory),
     }
