@@ -3,24 +3,24 @@
 use crate::said::{depth_said, nets_said};
 use crate::texts::FUNCTIONS;
 use eco_def::read_def;
-use eco_full::{DesignFault, list_design};
+use eco_full::{DesignFault, Macros, list_design};
 use eco_func::{Functions, read_functions};
 use eco_net::Netlist;
 use std::alloc::Global;
 use std::test::Fail;
 
-/// The netlist of a design whose components are gates, or its fault.
-fn listed(
+/// The netlist of a design, or its fault.
+pub fn listed<M: Macros>(
     alloc: Global,
     text: &str,
-    functions: &Functions,
+    macros: &M,
 ) -> Result<Result<Netlist, DesignFault>, Fail> {
     let text = text.as_bytes();
     if 10_000 < text.len() {
         return Err("a text that is too long".into());
     }
     let design = read_def(alloc, text)?;
-    match list_design(alloc, text, &design, functions) {
+    match list_design(alloc, text, &design, macros) {
         Ok(maker) => Ok(Ok(maker.finish(alloc)?)),
         Err(fault) => Ok(Err(fault)),
     }

@@ -6,6 +6,8 @@ mod full;
 #[cfg(test)]
 mod masters;
 #[cfg(test)]
+mod net;
+#[cfg(test)]
 mod overlay;
 #[cfg(test)]
 mod places;

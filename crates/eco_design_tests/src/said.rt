@@ -1,7 +1,9 @@
 //! What the calls of a netlist answer, as text.
 
+ghost use Rattle.std.specs.Prelude.{◌≡◌, IfOk, length};
+
 use eco_func::Name;
-use eco_net::{Kind, LoopFault, NetId, Netlist, PinRef};
+use eco_net::{CutKey, CutValues, Kind, LoopFault, NetId, Netlist, PinRef, Values};
 use std::alloc::Global;
 use std::test::Fail;
 
@@ -125,4 +127,62 @@ pub fn depth_said(alloc: Global, netlist: &Netlist) -> Result<String, Fail> {
         Err(LoopFault::Memory) => Err("memory".into()),
         Err(fault) => Ok(format!(in alloc; "{fault}")?),
     }
+}
+
+/// A cut key behind a blank: its pin, or its net.
+fn key_text(alloc: Global, netlist: &Netlist, key: CutKey) -> Result<String, Fail> {
+    match key {
+        CutKey::Top(top) => pins_text(alloc, netlist, &[PinRef::Top(top)]),
+        CutKey::Boxed(comp, pin) => pins_text(alloc, netlist, &[PinRef::Pin(comp, pin)]),
+        CutKey::Net(net) => Ok(format!(in alloc; " {}", net_text(netlist, net)?)?),
+    }
+}
+
+/// The cut keys, each behind a blank.
+pub fn keys_said(alloc: Global, netlist: &Netlist) -> Result<String, Fail> {
+    let mut line = String::new(alloc);
+    for key in netlist.cut_keys(alloc)? {
+        line.push_str(key_text(alloc, netlist, key)?.as_str())?;
+    }
+    Ok(line)
+}
+
+/// The observables, each behind a blank.
+pub fn observables_said(alloc: Global, netlist: &Netlist) -> Result<String, Fail> {
+    let observables = netlist.observables(alloc)?;
+    pins_text(alloc, netlist, &observables)
+}
+
+/// The bits of a text of `0` and `1`.
+fn bits_of(alloc: Global, text: &str) -> Result<Vec<bool>, Fail> {
+    let mut bits = Vec::new(alloc);
+    for byte in text.as_bytes() {
+        bits.push(*byte == b'1')?;
+    }
+    Ok(bits)
+}
+
+/// The value of each net, where the cut keys have these bits.
+fn values_of(alloc: Global, netlist: &Netlist, bits: &str) -> Result<Values, Fail>
+    ensures { IfOk result (λ values. length values ≡ length netlist.now.nets) }
+{
+    let bits = bits_of(alloc, bits)?;
+    if netlist.cut_keys(alloc)?.len() != bits.len() {
+        return Err("a bit for each cut key".into());
+    }
+    let levels = netlist.levels(alloc)?;
+    Ok(netlist.value_all(alloc, &levels, &CutValues::new(bits))?)
+}
+
+/// Each net with its value, behind a blank, where the cut keys have these bits.
+pub fn values_said(alloc: Global, netlist: &Netlist, bits: &str) -> Result<String, Fail> {
+    let values = values_of(alloc, netlist, bits)?;
+    let mut line = String::new(alloc);
+    for net in 0..netlist.counts().nets {
+        let net = NetId(net);
+        let name = net_text(netlist, net)?;
+        let value = u8::from(values.at(net));
+        write!(line, " {name}={value}")?;
+    }
+    Ok(line)
 }
