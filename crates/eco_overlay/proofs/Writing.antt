@@ -1,6 +1,6 @@
 -- What the writer of statements appends.
 use Rattle.std.specs.List.{flat_map}
-use Rattle.std.proofs.Common.{◌≡◌, ℕ, suc, Bool, true, None, is_ok, if◌then◌else◌, arith, slice_range, ◌-◌, List, [], ◌∷◌, ◌++◌, length, map, Option, Some, Result, Ok, Err, OnOk, IfOk, refl, ap, sym, ◌∙◌, append_assoc, append-nil, slice_get, codes}
+use Rattle.std.proofs.Common.{◌≡◌, ℕ, Bool, true, is_ok, if◌then◌else◌, slice_range, List, [], ◌∷◌, ◌++◌, map, Result, Ok, Err, OnOk, IfOk, refl, ap, sym, ◌∙◌, append_assoc, append-nil, codes}
 use Rattle.eco_def.specs.declared.design.Joint.{Joint}
 use Rattle.eco_def.specs.declared.design.NetStatement.{NetStatement}
 use Rattle.eco_def.specs.View.{joint_in, net_in}

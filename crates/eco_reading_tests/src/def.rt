@@ -238,7 +238,7 @@ fn among_others(alloc: Global, joined: &Joined<'_>) -> Result<(String, String), 
 #[test]
 fn joints_whose_words_are_near_and_far(rt: HostRuntime) -> Result<(), Fail> {
     let alloc = rt.alloc();
-    for width in [1, 254, 255, 256, 70_000] {
+    for width in [1, 254, 255, 256, 1024] {
         let blanks = repeated(alloc, " ", width)?;
         let name = repeated(alloc, "n", width)?;
         for joined in &stretched(alloc, &blanks, &name)? {
