@@ -1,6 +1,6 @@
 //! The command `apply`.
 
-ghost use Rattle.std.specs.Prelude.{◌≡◌, map, string_bytes};
+ghost use Rattle.std.specs.Prelude.{◌≡◌, ◌≢◌, ◌⊎◌, map, string_bytes};
 ghost use Rattle.eco_cli.specs.ApplyCommand.{apply_of, apply_options, ApplyGives, ApplyRefuses, GivesPatched, RefusesPatch};
 ghost use Rattle.eco_cli.specs.BaseTexts.{texts_in};
 ghost use Rattle.eco_cli.specs.CommandLine.{HasReading};
@@ -31,6 +31,16 @@ fn issued(base: Base, overlay: Overlay) -> Issued
     }
 }
 
+/// Why an order fails: for want of memory, or by its fault.
+fn failed(fault: OneFault) -> Failure
+    ensures { (result ≡ Failure.Memory) ⊎ ((fault ≢ OneFault.Memory) × (result ≡ Failure.Refused (Refusal.Apply fault))) }
+{
+    match fault {
+        OneFault::Memory => Failure::Memory,
+        fault => Failure::Refused(Refusal::Apply(fault)),
+    }
+}
+
 /// Opens the base, and puts the gate on its spare in it.
 fn patch(alloc: Global, texts: BaseTexts, asked: &ApplyWords<'_>) -> Result<Plan, Failure>
     ensures { Plans (GivesPatched (apply_of asked.now) texts.lef.items texts.def.items texts.functions.items texts.desk.items) (RefusesPatch (apply_of asked.now) texts.lef.items texts.def.items texts.functions.items texts.desk.items) result }
@@ -41,8 +51,7 @@ fn patch(alloc: Global, texts: BaseTexts, asked: &ApplyWords<'_>) -> Result<Plan
     };
     match apply_one(&base, alloc, &one) {
         Ok(overlay) => Ok(Plan::Issued(issued(base, overlay))),
-        Err(OneFault::Memory) => Err(Failure::Memory),
-        Err(fault) => Err(Failure::Refused(Refusal::Apply(fault))),
+        Err(fault) => Err(failed(fault)),
     }
 }
 

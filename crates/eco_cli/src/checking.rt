@@ -17,8 +17,5 @@ pub fn plan_check(alloc: Global, texts: BaseTexts) -> Result<Plan, Failure>
     ensures { Plans (CheckGives (texts_in texts)) (CheckRefuses (texts_in texts)) result }
 {
     let base = opened(alloc, texts)?;
-    match report_on(alloc, &base) {
-        Ok(report) => Ok(Plan::Told(Done::Checked(report))),
-        Err(_) => Err(Failure::Memory),
-    }
+    Ok(Plan::Told(Done::Checked(report_on(&base))))
 }

@@ -32,7 +32,7 @@ module _ (lef def functions desk : List ℕ) (l f d : List ℕ) (lef_is : l ≡ 
 pub digest_told : (lef def functions desk l m f d : List ℕ) → l ≡ lef → m ≡ def → f ≡ functions → d ≡ desk → (digest : List ℕ) → digest ≡ digest_of l m f d → digest ≡ digest_of lef def functions desk
 digest_told lef def functions desk l m f d e g h k digest is = is ∙ (λ i. digest_of (e i) (g i) (h i) (k i))
 
-pub open_is : (t : TextParts) → AreRead t → AreJoined t → (s : Stocked) → IsStocked t s → (digest : List ℕ) → IsOpen (record { texts = t; listing = s.netlist; stock = s.spares.items; functions = s.functions.items; skipped = s.skipped; census = s.census; digest = digest })
+pub open_is : (t : TextParts) → AreRead t → AreJoined t → (s : Stocked) → IsStocked t s → (digest : List ℕ) → IsOpen (record { texts = t; listing = s.netlist; stock = s.spares.items; functions = s.functions.items; skipped = s.skipped; census = s.census; depth = s.depth; digest = digest })
 open_is t read joined s stocked digest = record {
   read = read;
   joined = joined;
@@ -46,4 +46,5 @@ open_is t read joined s stocked digest = record {
   counted = stocked.counted;
   same = stocked.same;
   loop_free = stocked.loop_free;
+  deep = stocked.deep;
 }

@@ -5,6 +5,7 @@ use Rattle.std.specs.Option.{option_map}
 use Rattle.std.specs.FinMap.{get}
 use Rattle.eco_net.specs.Netlist.{Name, Netlist, IsNet, IsWhole}
 use Rattle.eco_net.specs.Walks.{IsLoopFree}
+use Rattle.eco_net.specs.Depth.{IsDepth}
 use Rattle.eco_net.specs.Listing.{Listing, netlist, comp_names as listed_names}
 use Rattle.eco_net.specs.declared.kind.Kind.TheVariants.{Gate}
 use Rattle.eco_net.specs.Kept.{IsListing}
@@ -55,7 +56,7 @@ module _ (t : TextParts) (L : Listing) (is : IsListing L) (same : netlist L ≡ 
       is_without ∙ (λ i. without_spares (same i) (e i) (stock i))
 
   module _ (s : Stocked) (whole : IsWhole (netlist L)) (few : length s.spares.items ≤ 32768) (numbers : AreNumbered L s.spares.items)
-      (functions : map (λ f. Some (Gate f)) s.functions.items ≡ map (λ (x : Spare). option_map (λ r. r.kind) (slice_get L.comps x.comp)) s.spares.items) (free : IsLoopFree (netlist s.netlist)) (counted : IsCensusOf t s.census) where
+      (functions : map (λ f. Some (Gate f)) s.functions.items ≡ map (λ (x : Spare). option_map (λ r. r.kind) (slice_get L.comps x.comp)) s.spares.items) (free : IsLoopFree (netlist s.netlist)) (deep : IsDepth (netlist s.netlist) s.depth) (counted : IsCensusOf t s.census) where
     stocked : IsTieNet t.desk.prefixes (netlist L) t.desk.high true → IsTieNet t.desk.prefixes (netlist L) t.desk.low false → map place_of_spare s.spares.items ≡ map place_in_row (stock_rows t.desk L)
         → s.skipped ≡ count_by (is_skipped_row t.desk L.nets) L.comps → netlist s.netlist ≡ without_spares (netlist L) t.desk (spare_names s.spares.items) → IsStocked t s
     stocked high low rows skipped is_without =
@@ -71,6 +72,7 @@ module _ (t : TextParts) (L : Listing) (is : IsListing L) (same : netlist L ≡ 
           counted = counted;
           same = base;
           loop_free = subst IsLoopFree base free;
+          deep = subst (λ N. IsDepth N s.depth) base deep;
         }
 
     pub stocked_is : (desk : Desk) → desk ≡ t.desk → IsTieNet desk.prefixes (netlist L) desk.high true → IsTieNet desk.prefixes (netlist L) desk.low false → map place_of_spare s.spares.items ≡ map place_in_row (stock_rows desk L)

@@ -4,6 +4,7 @@ use Rattle.std.specs.List.{AllZip}
 use Rattle.eco_func.specs.Masters.{MasterTables}
 use Rattle.eco_net.specs.Netlist.{IsWhole}
 use Rattle.eco_net.specs.Walks.{IsLoopFree}
+use Rattle.eco_net.specs.Depth.{IsDepth}
 use Rattle.eco_net.specs.Listing.{Listing, netlist}
 use Rattle.eco_patch.specs.Bases.{Base, bare}
 use Rattle.eco_stock.specs.declared.stock.Spare.{Spare}
@@ -13,7 +14,8 @@ use Rattle.eco_opening.specs.Texts.{TextParts, AreRead}
 use Rattle.eco_opening.specs.Joined.{comp_names, AreJoined}
 pub use Rattle.eco_opening.specs.Stocks.{listed_netlist, full_netlist, IsTied, is_stock_at, is_in_stock, stock_names, is_skipped, IsSpareOf}
 
--- listing: the netlist without the stock, by number. functions: what each spare of the stock computes
+-- listing: the netlist without the stock, by number. functions: what each spare of the stock computes. depth: how deep its gates
+-- stand
 pub record BaseParts : Type 0 where
   pub texts : TextParts
   pub listing : Listing
@@ -21,6 +23,7 @@ pub record BaseParts : Type 0 where
   pub functions : List MasterTables
   pub skipped : ℕ
   pub census : Census
+  pub depth : ℕ
   pub digest : List ℕ
 
 -- ---- the base
@@ -44,3 +47,4 @@ pub record IsOpen (b : BaseParts) : Type 0 where
   pub counted : IsCensusOf b.texts b.census
   pub same : netlist b.listing ≡ bare (frozen b.texts)
   pub loop_free : IsLoopFree (bare (frozen b.texts))
+  pub deep : IsDepth (bare (frozen b.texts)) b.depth

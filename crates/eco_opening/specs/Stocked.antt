@@ -5,6 +5,7 @@ use Rattle.eco_net.specs.declared.rows.CompRow.{CompRow}
 use Rattle.eco_net.specs.Netlist.{Name, Netlist, IsWhole}
 use Rattle.eco_net.specs.Listing.{netlist, kind_of}
 use Rattle.eco_net.specs.Walks.{IsLoopFree, IsClosedWalk}
+use Rattle.eco_net.specs.Depth.{IsDepth}
 use Rattle.eco_patch.specs.Bases.{bare}
 use Rattle.eco_spares.specs.Desk.{Desk}
 use Rattle.eco_stock.specs.Ties.{IsTieNet}
@@ -56,3 +57,4 @@ pub record IsStocked (t : TextParts) (s : Stocked) : Type 0 where
   pub counted : IsCensusOf t s.census
   pub same : netlist s.netlist ≡ bare (frozen t)
   pub loop_free : IsLoopFree (bare (frozen t))
+  pub deep : IsDepth (bare (frozen t)) s.depth

@@ -17,6 +17,7 @@ pub struct Base {
     functions: Vec<MasterFn>,
     skipped: u32,
     census: Census,
+    depth: u32,
     digest: [u8; 32],
 }
 
@@ -25,14 +26,16 @@ impl Model for Base {
 
     ghost Value = { BaseParts };
 
-    ghost view = { λ b. record { texts = b.texts; listing = b.netlist; stock = b.stock.items; functions = b.functions.items; skipped = b.skipped; census = b.census; digest = b.digest } };
+    ghost view = { λ b. record { texts = b.texts; listing = b.netlist; stock = b.stock.items; functions = b.functions.items; skipped = b.skipped; census = b.census; depth = b.depth; digest = b.digest } };
 
-    ghost invariant = { λ b. IsOpen (record { texts = b.texts; listing = b.netlist; stock = b.stock.items; functions = b.functions.items; skipped = b.skipped; census = b.census; digest = b.digest }) };
+    ghost invariant = { λ b. IsOpen (record { texts = b.texts; listing = b.netlist; stock = b.stock.items; functions = b.functions.items; skipped = b.skipped; census = b.census; depth = b.depth; digest = b.digest }) };
 }
 
 impl Base {
     ghost use Rattle.std.specs.Prelude.{◌≡◌, ◌<◌, Some, length, slice_get};
-    ghost use Rattle.eco_opening.specs.Bases.{BaseParts, IsOpen};
+    ghost use Rattle.eco_net.specs.Depth.{IsDepth};
+    ghost use Rattle.eco_patch.specs.Bases.{bare};
+    ghost use Rattle.eco_opening.specs.Bases.{BaseParts, IsOpen, frozen};
     ghost use Rattle.eco_opening.specs.Census.{IsCensusOf};
     ghost use Rattle.eco_opening.specs.Limits.{KeepsLimits};
     ghost use Rattle.eco_stock.specs.Ties.{tie_name};
@@ -45,10 +48,11 @@ impl Base {
         functions: Vec<MasterFn>,
         skipped: u32,
         census: Census,
+        depth: u32,
         digest: [u8; 32],
     ) -> Base
-        requires { IsOpen (record { texts = texts; listing = netlist; stock = stock.items; functions = functions.items; skipped = skipped; census = census; digest = digest }) }
-        ensures { result ≡ record { texts = texts; listing = netlist; stock = stock.items; functions = functions.items; skipped = skipped; census = census; digest = digest } }
+        requires { IsOpen (record { texts = texts; listing = netlist; stock = stock.items; functions = functions.items; skipped = skipped; census = census; depth = depth; digest = digest }) }
+        ensures { result ≡ record { texts = texts; listing = netlist; stock = stock.items; functions = functions.items; skipped = skipped; census = census; depth = depth; digest = digest } }
     {
         Base {
             texts,
@@ -57,6 +61,7 @@ impl Base {
             functions,
             skipped,
             census,
+            depth,
             digest,
         }
     }
@@ -128,6 +133,14 @@ impl Base {
         ensures open { IsOpen self.now }
     {
         self.census
+    }
+
+    /// The greatest depth of a gate that is no stock, and 0 where there is none.
+    pub fn depth(&self) -> u32
+        ensures depth { IsDepth (bare (frozen self.now.texts)) result }
+        ensures open { IsOpen self.now }
+    {
+        self.depth
     }
 
     /// The net that is tied to a value.

@@ -37,6 +37,7 @@ pub fn open_base(
         stocked.functions,
         stocked.skipped,
         stocked.census,
+        stocked.depth,
         digest,
     ))
 }

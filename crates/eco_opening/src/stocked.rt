@@ -6,7 +6,7 @@ use eco_net::Netlist;
 use eco_stock::Spare;
 
 /// The netlist without the stock, each spare of the stock, what it computes, how many spare-named components are no stock,
-/// and how much there is in all.
+/// how much there is in all, and how deep the gates stand that are no stock.
 #[derive(Drop)]
 pub struct Stocked {
     pub netlist: Netlist,
@@ -14,4 +14,6 @@ pub struct Stocked {
     pub functions: Vec<MasterFn>,
     pub skipped: u32,
     pub census: Census,
+    /// How deep the gates of the netlist stand.
+    pub depth: u32,
 }

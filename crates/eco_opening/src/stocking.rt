@@ -4,6 +4,7 @@ ghost use Rattle.std.specs.Prelude.{◌≡◌, ◌≤◌, true, false, Some, map
 ghost use Rattle.std.specs.List.{All};
 ghost use Rattle.std.specs.Option.{option_map};
 ghost use Rattle.eco_net.specs.Listing.{netlist};
+ghost use Rattle.eco_net.specs.Depth.{IsDepth};
 ghost use Rattle.eco_net.specs.Walks.{IsLoopFree, IsClosedWalk};
 ghost use Rattle.eco_net.specs.declared.kind.Kind.TheVariants.{Gate};
 ghost use Rattle.eco_stock.specs.Ties.{tie_name, IsTieNet};
@@ -61,13 +62,14 @@ fn check_count(spares: &[Spare]) -> Result<(), BaseFault>
     Err(BaseFault::TooMuchStock { count })
 }
 
-/// Refuses a netlist in which a signal runs in a circle.
-fn check_loops(alloc: Global, net: &Netlist) -> Result<(), BaseFault>
+/// How deep the gates of a netlist stand. Refuses a netlist in which a signal runs in a circle.
+fn depth_of(alloc: Global, net: &Netlist) -> Result<u32, BaseFault>
     ensures free { OnOk result (IsLoopFree (netlist net.now)) }
+    ensures depth { IfOk result (IsDepth (netlist net.now)) }
     ensures fault { IfErr result (BlamesLoop (netlist net.now)) }
 {
-    match net.check_loops(alloc) {
-        Ok(()) => Ok(()),
+    match net.levels(alloc) {
+        Ok(levels) => Ok(levels.depth()),
         Err(LoopFault::Loop { nets }) => Err(BaseFault::Loop { nets }),
         Err(LoopFault::Memory) => Err(BaseFault::Memory),
     }
@@ -113,7 +115,7 @@ pub fn take_stock(alloc: Global, texts: &Texts, maker: NetlistMaker) -> Result<S
     let functions = functions_of(alloc, &full, &stock.spares)?;
     let census = census_of(&full, &stock);
     let netlist = without_stock(alloc, full, desk, &stock)?;
-    check_loops(alloc, &netlist)?;
+    let depth = depth_of(alloc, &netlist)?;
     let Stock {
         spares,
         marks: _,
@@ -125,5 +127,6 @@ pub fn take_stock(alloc: Global, texts: &Texts, maker: NetlistMaker) -> Result<S
         functions,
         skipped,
         census,
+        depth,
     })
 }

@@ -1,4 +1,4 @@
-use Rattle.std.proofs.Common.{refl, rules, tests}
+use Rattle.std.proofs.Common.{refl, ⊎_elim}
 use Rattle.std.proofs.lemmas.Result.{err_from_is_err_and}
 use Rattle.eco_cli.specs.ApplyCommand.{apply_of, GivesPatched, RefusesPatch}
 use Rattle.eco_cli.proofs.NoBase.{not_opened}
@@ -32,5 +32,8 @@ returns-in-Ok-apply_one c = (
   ),
 )
 
-pub returns : goal.returns
-returns c = (c.in_ok-base.base, c.in_ok-base.ensures, record { one = c.in-Ok.one; order = c.in-Ok.ensures; refused = c.in-Err.ensures.applies; reason = search (rules, tests) })
+pub returns-in-Err : goal.returns-in-Err
+returns-in-Err c = ⊎_elim
+    (λ m. rw m tt)
+    (λ r. rw r.1 (c.in_ok-base.base, c.in_ok-base.ensures, record { one = c.in-Ok.one; order = c.in-Ok.ensures; refused = c.in-Err.ensures.applies; reason = r.0 }))
+    c.failed.ensures

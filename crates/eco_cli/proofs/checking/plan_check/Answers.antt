@@ -10,5 +10,5 @@ returns-in_err-base c =
     let p = err_from_is_err_and c.from_residual.result c.from_residual.ensures.1 in
     rw (p.1, p.2) (not_opened (CheckGives (texts_in c.args.texts)) (CheckRefuses (texts_in c.args.texts)) c.args.texts c.in_err-base.field-0.0 (λ f refused. refused) c.in_err-base.ensures)
 
-pub returns-in-Ok : goal.returns-in-Ok
-returns-in-Ok c = ((record { base = c.in_ok-base.base; opened = c.in_ok-base.ensures; report = c.in-Ok.ensures }, refl), tt)
+pub returns : goal.returns
+returns c = ((record { base = c.in_ok-base.base; opened = c.in_ok-base.ensures; report = c.report_on.ensures }, refl), tt)

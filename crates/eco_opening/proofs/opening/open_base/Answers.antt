@@ -28,7 +28,7 @@ returns c =
     let functions = c.args.functions.items in
     let desk = c.args.desk.items in
     let s = c.in_ok-stocked.stocked in
-    let b : BaseParts = record { texts = c.in_ok-texts.texts; listing = s.netlist; stock = s.spares.items; functions = s.functions.items; skipped = s.skipped; census = s.census; digest = c.digest_of-digest.result } in
+    let b : BaseParts = record { texts = c.in_ok-texts.texts; listing = s.netlist; stock = s.spares.items; functions = s.functions.items; skipped = s.skipped; census = s.census; depth = s.depth; digest = c.digest_of-digest.result } in
     let opened : IsOpened lef def functions desk b = record {
       read = read_told lef def functions desk c.deref-5.result.now c.deref-6.result.now c.deref-7.result.now c.deref-5.ensures.value c.deref-6.ensures.value c.deref-7.ensures.value c.in_ok-texts.texts c.in_ok-texts.ensures.texts;
       digest = digest_told lef def functions desk c.deref.result.now c.deref-2.result.now c.deref-3.result.now c.deref-4.result.now c.deref.ensures.value c.deref-2.ensures.value c.deref-3.ensures.value c.deref-4.ensures.value c.digest_of-digest.result c.digest_of-digest.ensures;

@@ -31,6 +31,11 @@ returns-in_err-check_count-clause-fault c =
     rw (p.1, p.2) (count_first t (both_tied t (netlist full) same c.desk-desk.result.now c.desk-desk.ensures c.in_ok-check_ties.ensures.high c.in_ok-check_ties.ensures.low)
     (length c.deref.result.now) (ap length c.deref.ensures.value ∙ count) c.in_err-check_count.field-0.0 c.in_err-check_count.ensures.fault)
 
+pub returns-in_err-stock-clause-fault : goal.returns-in_err-stock-clause-fault
+returns-in_err-stock-clause-fault c =
+    let p = err_from_is_err_and c.from_residual-in_err-stock.result c.from_residual-in_err-stock.ensures.1 in
+    rw (p.1, p.2) tt
+
 pub functions_of-requires : goal.functions_of-requires
 functions_of-requires c =
     let t = c.args.texts.now in
@@ -47,9 +52,9 @@ without_stock-requires-clause-high c = tie_is_net c.desk-desk.result.now.prefixe
 pub without_stock-requires-clause-low : goal.without_stock-requires-clause-low
 without_stock-requires-clause-low c = tie_is_net c.desk-desk.result.now.prefixes (netlist c.in_ok-full.full) c.desk-desk.result.now.low _ c.in_ok-check_ties.ensures.low
 
-pub returns-in_err-check_loops-clause-fault : goal.returns-in_err-check_loops-clause-fault
-returns-in_err-check_loops-clause-fault c =
-    let p = err_from_is_err_and c.from_residual-in_err-check_loops.result c.from_residual-in_err-check_loops.ensures.1 in
+pub returns-in_err-depth-clause-fault : goal.returns-in_err-depth-clause-fault
+returns-in_err-depth-clause-fault c =
+    let p = err_from_is_err_and c.from_residual-in_err-depth.result c.from_residual-in_err-depth.ensures.1 in
     let t = c.args.texts.now in
     let full = c.in_ok-full.full in
     let same = ap netlist c.in_ok-full.ensures.listed ∙ c.requires.listed.netlist in
@@ -60,7 +65,7 @@ returns-in_err-check_loops-clause-fault c =
     let few : length (stock_names t) ≤ 32768 = subst (λ n. n ≤ 32768) (ap length c.deref.ensures.value ∙ count) c.in_ok-check_count.ensures.few in
     rw (p.1, p.2) (loop_first t (both_tied t (netlist full) same desk c.desk-desk.ensures c.in_ok-check_ties.ensures.high c.in_ok-check_ties.ensures.low) few (netlist c.in_ok-netlist.netlist)
     (base_is t full c.counts-counts.ensures.listing same names desk c.desk-desk.ensures spares c.in_ok-stock.ensures.rows (netlist c.in_ok-netlist.netlist) c.in_ok-netlist.ensures.base)
-    c.in_err-check_loops.field-0.0 c.in_err-check_loops.ensures.fault)
+    c.in_err-depth.field-0.0 c.in_err-depth.ensures.fault)
 
 pub returns-clause-stocked : goal.returns-clause-stocked
 returns-clause-stocked c =
@@ -71,7 +76,7 @@ returns-clause-stocked c =
     let stock = c.in_ok-stock.stock in
     let few = subst (λ (xs : List Spare). length xs ≤ 32768) c.deref.ensures.value c.in_ok-check_count.ensures.few in
     let functions = c.in_ok-functions.ensures ∙ ap (map (λ (x : Spare). option_map (λ r. r.kind) (slice_get full.comps x.comp))) c.deref-2.ensures.value in
-    stocked_is t full c.counts-counts.ensures.listing same names (record { netlist = c.in_ok-netlist.netlist; spares = stock.spares; functions = c.in_ok-functions.functions; skipped = stock.skipped; census = c.census_of-census.result })
-    c.in_ok-full.ensures.whole few c.in_ok-stock.ensures.numbers functions c.in_ok-check_loops.ensures.free
+    stocked_is t full c.counts-counts.ensures.listing same names (record { netlist = c.in_ok-netlist.netlist; spares = stock.spares; functions = c.in_ok-functions.functions; skipped = stock.skipped; census = c.census_of-census.result; depth = c.in_ok-depth.depth })
+    c.in_ok-full.ensures.whole few c.in_ok-stock.ensures.numbers functions c.in_ok-depth.ensures.free c.in_ok-depth.ensures.depth
     (census_is t full c.counts-counts.ensures.listing same names c.desk-desk.result.now c.desk-desk.ensures stock c.census_of-census.result c.in_ok-stock.ensures.rows c.in_ok-stock.ensures.skipped c.census_of-census.ensures)
     c.desk-desk.result.now c.desk-desk.ensures c.in_ok-check_ties.ensures.high c.in_ok-check_ties.ensures.low c.in_ok-stock.ensures.rows c.in_ok-stock.ensures.skipped c.in_ok-netlist.ensures.base
