@@ -42,5 +42,6 @@ pub mod DepthNumbers
 pub mod DepthNames
 pub mod Removed
 pub mod JoinedNames
+pub mod Filling
 mod Examples
 mod Loops

@@ -26,3 +26,4 @@ pub mod SinksOf
 pub mod ValuesOf
 pub mod Removal
 pub mod JoinedPins
+pub mod PinLists

@@ -1,14 +1,16 @@
 //! Places by name.
 
+use crate::short_name::ShortName;
 use eco_func::Memory;
 use std::alloc::Global;
 use std::collections::HashMap;
 use std::marker::Model;
 
-/// The place of each name.
+/// The place of each name. A short name takes no memory of its own.
 #[derive(Drop)]
 pub struct NameIndex {
-    places: HashMap<Vec<u8>, u32>,
+    shorts: HashMap<ShortName, u32>,
+    longs: HashMap<Vec<u8>, u32>,
 }
 
 impl Model for NameIndex {
@@ -16,13 +18,13 @@ impl Model for NameIndex {
     ghost use Rattle.std.specs.FinMap as map;
     ghost use Rattle.std.specs.Coded.{coded_ℕ, coded_list};
     ghost use Rattle.eco_net.specs.Netlist.{name_cmp};
-    ghost use Rattle.eco_net.specs.Index.{by_bytes};
+    ghost use Rattle.eco_net.specs.Index.{by_bytes, placed};
 
     ghost Value = { map.FinMap name_cmp ℕ };
 
     ghost coded = { map.code (coded_list coded_ℕ) coded_ℕ };
 
-    ghost view = { λ s. map.from_entries (by_bytes s.places.entries) };
+    ghost view = { λ s. map.from_entries (placed s.shorts.entries (by_bytes s.longs.entries)) };
 }
 
 impl NameIndex {
@@ -34,24 +36,47 @@ impl NameIndex {
         ensures { result ≡ map.empty }
     {
         NameIndex {
-            places: HashMap::new(alloc),
+            shorts: HashMap::new(alloc),
+            longs: HashMap::new(alloc),
         }
+    }
+
+    /// No names, with room for so many short ones.
+    pub(crate) fn with_capacity(alloc: Global, names: usize) -> Result<NameIndex, Memory>
+        ensures { IfOk result (λ index. index ≡ map.empty) }
+    {
+        Ok(NameIndex {
+            shorts: HashMap::with_capacity(alloc, names)?,
+            longs: HashMap::new(alloc),
+        })
     }
 
     /// The place of a name.
     pub(crate) fn find(&self, name: &[u8]) -> Option<u32>
         ensures { result ≡ map.get self.now name.now }
     {
-        self.places.get(name).copied()
+        match ShortName::of(name) {
+            Some(short) => self.shorts.get(&short).copied(),
+            None => self.longs.get(name).copied(),
+        }
     }
 
     /// Gives a name its place.
-    pub(crate) fn insert(&mut self, name: Vec<u8>, place: u32) -> Result<(), Memory>
-        ensures ok { OnOk result (self.new ≡ map.insert self.old name.items place) }
+    pub(crate) fn insert(&mut self, alloc: Global, name: &[u8], place: u32) -> Result<(), Memory>
+        ensures ok { OnOk result (self.new ≡ map.insert self.old name.now place) }
         ensures err { OnErr result (self.new ≡ self.old) }
     {
-        self.places.insert(name, place)?;
-        Ok(())
+        match ShortName::of(name) {
+            Some(short) => {
+                self.shorts.insert(short, place)?;
+                Ok(())
+            }
+            None => {
+                let long = Vec::from_slice(alloc, name)?;
+                self.longs.insert(long, place)?;
+                Ok(())
+            }
+        }
     }
 
     /// The same places of the same names.
@@ -59,7 +84,8 @@ impl NameIndex {
         ensures { IfOk result (λ index. index ≡ self.now) }
     {
         Ok(NameIndex {
-            places: self.places.clone()?,
+            shorts: self.shorts.clone()?,
+            longs: self.longs.clone()?,
         })
     }
 }

@@ -98,29 +98,12 @@ impl From<Memory> for LoopFault {
 }
 
 impl Netlist {
-    ghost use Rattle.std.specs.Prelude.{◌≡◌, ◌<◌, IfOk, OnOk, IfErr, map, length};
+    ghost use Rattle.std.specs.Prelude.{◌≡◌, ◌<◌, IfOk, IfErr, map, length};
     ghost use Rattle.std.specs.List.{All};
     ghost use Rattle.eco_net.specs.Walks.{IsLoopFree};
     ghost use Rattle.eco_net.specs.Listing.{Listing, netlist, net_name};
     ghost use Rattle.eco_net.specs.Search.{IsOrder};
     ghost use Rattle.eco_net.specs.LevelsOf.{LoopIs, IsLevels};
-
-    /// The computed nets, each after all computed nets that its driver reads, or a loop.
-    fn order_or_loop(&self, alloc: Global) -> Result<Vec<u32>, LoopFault>
-        ensures ok { IfOk result (λ order. IsOrder self.now order.items) }
-        ensures stop { IfErr result (λ e. LoopIs (netlist self.now) e) }
-    {
-        let _counts = self.counts();
-        match self.order(alloc) {
-            Ok(order) => Ok(order),
-            Err(Stop::Memory) => Err(LoopFault::Memory),
-            Err(Stop::Ring(ring)) => {
-                let first = self.least(&ring);
-                let nets = self.names_from(alloc, &ring, first)?;
-                Err(LoopFault::Loop { nets })
-            }
-        }
-    }
 
     /// Levels, or a loop exactly where a closed walk of computed nets exists.
     pub fn levels(&self, alloc: Global) -> Result<Levels, LoopFault>
@@ -128,18 +111,17 @@ impl Netlist {
         ensures stop { IfErr result (λ e. LoopIs (netlist self.now) e) }
     {
         let _counts = self.counts();
-        let order = self.order_or_loop(alloc)?;
-        let depth = self.depth(alloc, &order)?;
-        Ok(Levels { order, depth })
-    }
-
-    /// Whether there are levels, without them: a loop exactly where a closed walk of computed nets exists.
-    pub fn check_loops(&self, alloc: Global) -> Result<(), LoopFault>
-        ensures free { OnOk result (IsLoopFree (netlist self.now)) }
-        ensures stop { IfErr result (λ e. LoopIs (netlist self.now) e) }
-    {
-        let _counts = self.counts();
-        self.order_or_loop(alloc)?;
-        Ok(())
+        match self.order(alloc) {
+            Ok(order) => {
+                let depth = self.depth(alloc, &order)?;
+                Ok(Levels { order, depth })
+            }
+            Err(Stop::Memory) => Err(LoopFault::Memory),
+            Err(Stop::Ring(ring)) => {
+                let first = self.least(&ring);
+                let nets = self.names_from(alloc, &ring, first)?;
+                Err(LoopFault::Loop { nets })
+            }
+        }
     }
 }

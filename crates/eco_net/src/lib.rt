@@ -19,11 +19,13 @@ mod listed;
 mod maker;
 mod netlist;
 mod observables;
+mod pin_lists;
 mod pins;
 mod reading;
 mod removal;
 mod rows;
 mod search;
+mod short_name;
 mod sinks;
 mod walk;
 

@@ -79,9 +79,8 @@ impl NetlistMaker {
             supply,
             tie: false,
         };
-        let key = Vec::from_slice(alloc, name)?;
         self.nets.reserve(1)?;
-        self.net_places.insert(key, number)?;
+        self.net_places.insert(alloc, name, number)?;
         self.nets.push_reserved(row);
         Ok(NetId(number))
     }
@@ -110,9 +109,8 @@ impl NetlistMaker {
             place,
             joined,
         };
-        let key = Vec::from_slice(alloc, name)?;
         self.comps.reserve(1)?;
-        self.comp_places.insert(key, number)?;
+        self.comp_places.insert(alloc, name, number)?;
         self.comps.push_reserved(row);
         Ok(CompId(number))
     }
@@ -183,9 +181,8 @@ impl NetlistMaker {
         ensures err { OnErr result (self.new ≡ self.old) }
     {
         let row = Name::of(alloc, name)?;
-        let key = Vec::from_slice(alloc, name)?;
         self.reserved.reserve(1)?;
-        self.reserved_places.insert(key, 0)?;
+        self.reserved_places.insert(alloc, name, 0)?;
         self.reserved.push_reserved(row);
         Ok(())
     }

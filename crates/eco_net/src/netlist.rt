@@ -3,7 +3,8 @@
 use crate::ids::{CompId, Counts, NetId, PinRef, TopId};
 use crate::kind::Kind;
 use crate::maker::NetlistMaker;
-use crate::pins::{PinList, drivers_of, pins_by_net};
+use crate::pin_lists::PinLists;
+use crate::pins::{drivers_of, pins_by_net};
 use eco_func::Memory;
 use eco_text::{Dir, Point};
 use std::alloc::Global;
@@ -13,7 +14,7 @@ use std::marker::Model;
 #[derive(Drop)]
 pub struct Netlist {
     pub(crate) listed: NetlistMaker,
-    pub(crate) on_net: Vec<PinList>,
+    pub(crate) on_net: PinLists,
     pub(crate) drivers: Vec<Option<PinRef>>,
 }
 
@@ -32,7 +33,7 @@ impl Model for Netlist {
 
     ghost view = { λ n. n.listed };
 
-    ghost invariant = { λ n. IsFinished n.listed n.on_net.items n.drivers.items };
+    ghost invariant = { λ n. IsFinished n.listed n.on_net n.drivers.items };
 }
 
 impl NetlistMaker {

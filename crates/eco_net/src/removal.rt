@@ -38,10 +38,9 @@ fn index_of(alloc: Global, comps: &[CompRow]) -> Result<NameIndex, Memory>
     requires apart { AreApart (map (λ r. r.name) comps.now) }
     ensures { IfOk result (λ index. IsIndexOf (map (λ r. r.name) comps.now) index) }
 {
-    let mut index = NameIndex::new(alloc);
+    let mut index = NameIndex::with_capacity(alloc, comps.len())?;
     for (place, row) in comps.iter().enumerate() {
-        let key = Vec::from_slice(alloc, row.name.bytes())?;
-        index.insert(key, place as u32)?;
+        index.insert(alloc, row.name.bytes(), place as u32)?;
     }
     Ok(index)
 }

@@ -43,7 +43,7 @@ impl Netlist {
         requires { net < length self.now.nets }
         ensures { result.now ≡ pins_on self.now net }
     {
-        self.on_net[net as usize].as_slice()
+        self.on_net.pins_of(net)
     }
 
     /// All pins of a net but the one that `driver` gives: top pins first, then by component and pin number.

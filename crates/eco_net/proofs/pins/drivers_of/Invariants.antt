@@ -3,5 +3,5 @@ use Rattle.std.specs.List.{range_with_len}
 use Rattle.eco_net.specs.ByNumber.{driver_at}
 use Rattle.eco_net.proofs.pins.drivers_of.Given as goal
 
-abbrev pub invariant-loop-list : goal.invariant-loop-list
-invariant-loop-list l = l.found.items ≡ map (driver_at l.listed) (range_with_len 0 l.list-index)
+abbrev pub invariant-loop-net : goal.invariant-loop-net
+invariant-loop-net l = l.found.items ≡ map (driver_at l.listed) (range_with_len 0 l.net)

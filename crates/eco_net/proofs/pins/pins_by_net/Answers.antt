@@ -1,21 +1,36 @@
-use Rattle.std.proofs.Common.{◌<◌, ◌∙◌, ◌++◌, sym, ap, length, take, arith}
-use Rattle.std.proofs.lemmas.List.{append_assoc}
-use Rattle.eco_net.specs.ByNumber.{by_net, tops_to, pins_to, comp_pins, pin_count, pins_at}
-use Rattle.eco_net.proofs.Places.{at_place}
-use Rattle.eco_net.proofs.ByNets.{nets_length, comp_more}
+use Rattle.std.proofs.Common.{◌∙◌, ℕ, [], ap, replicate, arith}
+use Rattle.eco_net.specs.declared.ids.PinRef.TheVariants.{Top}
+use Rattle.eco_net.specs.PinLists.{Places}
+use Rattle.eco_net.proofs.Filling.{counted_few, room_ends, room_few, filled_within, filled_lists}
 use Rattle.eco_net.proofs.pins.pins_by_net.Goals as goal
 
-pub add_pins-requires-clause-each_net : goal.add_pins-requires-clause-each_net
-add_pins-requires-clause-each_net c = ap length c.loop-comp.invariant ∙ nets_length c.args.listed.now _
+abbrev none : ℕ → Places
+none n = record { ends = replicate n 0; pins = [] }
 
-pub loop-comp-preserved : goal.loop-comp-preserved
-loop-comp-preserved c =
-    let L = c.args.listed.now in
-    let n = c.loop-comp.comp in
-    let h : n < length L.comps = omega arith in
-    let r = at_place L.comps n h in
-    let tops = tops_to (length L.tops) in
-    c.in_ok-add_pins.ensures.added (tops ++ comp_pins 0 (take n L.comps)) c.loop-comp.invariant
-    ∙ ap (by_net L)
-    (append_assoc tops (comp_pins 0 (take n L.comps)) (pins_to n (pin_count L n))
-    ∙ ap (λ ps. tops ++ ps) (ap (λ m. comp_pins 0 (take n L.comps) ++ pins_to n m) (ap pins_at r.1) ∙ sym (comp_more L n r.0 r.1 h)))
+pub with_places-requires : goal.with_places-requires
+with_places-requires c =
+    omega (arith, counted_few c.args.listed.now c.net_count.ensures.listing c.in_ok-counted.counted c.put_pins.new.on (c.in_ok-counted.ensures ∙ ap none c.net_count.ensures.count) c.put_pins.ensures)
+
+pub put_pins-requires-2-clause-each_net : goal.put_pins-requires-2-clause-each_net
+put_pins-requires-2-clause-each_net c =
+    room_ends c.args.listed.now c.net_count.ensures.listing c.in_ok-counted.counted c.put_pins.new.on (c.in_ok-counted.ensures ∙ ap none c.net_count.ensures.count) c.put_pins.ensures
+    c.in_ok-filled.filled (Top (record { 0 = 0 })) c.in_ok-filled.ensures
+
+pub put_pins-requires-2-clause-few : goal.put_pins-requires-2-clause-few
+put_pins-requires-2-clause-few c n =
+    omega (
+      arith,
+      room_few c.args.listed.now c.net_count.ensures.listing c.in_ok-counted.counted c.put_pins.new.on (c.in_ok-counted.ensures ∙ ap none c.net_count.ensures.count) c.put_pins.ensures
+          c.in_ok-filled.filled (Top (record { 0 = 0 })) c.in_ok-filled.ensures n,
+    )
+
+pub finish-requires : goal.finish-requires
+finish-requires c =
+    filled_within c.args.listed.now c.net_count.ensures.listing c.in_ok-counted.counted c.put_pins.new.on (c.in_ok-counted.ensures ∙ ap none c.net_count.ensures.count) c.put_pins.ensures
+    c.in_ok-filled.filled (Top (record { 0 = 0 })) c.in_ok-filled.ensures c.put_pins-2.new.on c.put_pins-2.ensures
+
+pub returns : goal.returns
+returns c =
+    c.finish.ensures
+    ∙ filled_lists c.args.listed.now c.net_count.ensures.listing c.in_ok-counted.counted c.put_pins.new.on (c.in_ok-counted.ensures ∙ ap none c.net_count.ensures.count) c.put_pins.ensures
+    c.in_ok-filled.filled (Top (record { 0 = 0 })) c.in_ok-filled.ensures c.put_pins-2.new.on c.put_pins-2.ensures

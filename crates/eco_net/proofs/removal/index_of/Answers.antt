@@ -8,12 +8,12 @@ use Rattle.eco_net.proofs.Removed.{index_more}
 use Rattle.eco_net.proofs.removal.index_of.Goals as goal
 
 pub loop-place-init : goal.loop-place-init
-loop-place-init c = subst (IsIndexOf []) (sym c.new-index.ensures) index_nil
+loop-place-init c = subst (IsIndexOf []) (sym c.in_ok-index.ensures) index_nil
 
 pub loop-place-preserved : goal.loop-place-preserved
 loop-place-preserved c =
     subst (IsIndexOf (map (λ r. r.name) (take (c.loop-place.place + 1) c.args.comps.now)))
-    (sym (c.in_ok-insert.ensures.ok ∙ ap (λ name. insert c.loop-place.index name c.loop-place.place) (c.in_ok-key.ensures.items ∙ c.bytes.ensures)))
+    (sym (c.in_ok-insert.ensures.ok ∙ ap (λ name. insert c.loop-place.index name c.loop-place.place) c.bytes.ensures))
     (index_more c.args.comps.now c.loop-place.place c.index-comps-place.result c.loop-place.index c.loop-place-test.true c.index-comps-place.is c.requires.apart c.loop-place.invariant)
 
 pub returns : goal.returns

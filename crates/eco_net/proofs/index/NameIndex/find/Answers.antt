@@ -1,11 +1,26 @@
-use Rattle.std.proofs.Common.{◌∙◌, sym, ap}
+use Rattle.std.proofs.Common.{◌∙◌, true, false, sym, ap}
 use Rattle.std.specs.FinMap as map
-use Rattle.eco_net.proofs.Indexed.{place_found}
+use Rattle.std.specs.Map.{lookup}
+use Rattle.std.specs.Str.{bytes_eq}
+use Rattle.eco_net.specs.Index.{by_bytes}
+use Rattle.eco_net.proofs.Indexed.{place_found, text_found, short_is, long_is}
 use Rattle.eco_net.proofs.index.NameIndex.find.Goals as goal
 
-pub returns : goal.returns
-returns c =
+pub returns-in-Some : goal.returns-in-Some
+returns-in-Some c =
+    let s = c.self.inside in
+    let q = c.args.name.now in
     c.copied.ensures
     ∙ c.get.ensures.value
-    ∙ sym (place_found c.self.inside.places.entries c.args.name.now)
-    ∙ ap (λ m. map.get m c.args.name.now) c.self.view_is
+    ∙ ap (λ n. lookup (bytes_eq n) s.shorts.entries) c.in-Some.ensures.1
+    ∙ sym (place_found s.shorts.entries (by_bytes s.longs.entries) q true (short_is q c.in-Some.ensures.0))
+    ∙ ap (λ m. map.get m q) c.self.view_is
+
+pub returns-in-None : goal.returns-in-None
+returns-in-None c =
+    let s = c.self.inside in
+    let q = c.args.name.now in
+    c.copied-in-None.ensures
+    ∙ c.get-in-None.ensures.value
+    ∙ sym (place_found s.shorts.entries (by_bytes s.longs.entries) q false (long_is q c.in-None.ensures) ∙ text_found q s.longs.entries)
+    ∙ ap (λ m. map.get m q) c.self.view_is

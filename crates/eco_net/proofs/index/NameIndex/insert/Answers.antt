@@ -1,10 +1,22 @@
-use Rattle.std.proofs.Common.{◌∙◌, ap}
+use Rattle.std.proofs.Common.{◌≡◌, ◌∙◌, ap}
 use Rattle.std.specs.FinMap as map
-use Rattle.eco_net.proofs.Indexed.{place_given}
+use Rattle.eco_net.specs.Index.{by_bytes}
+use Rattle.eco_net.proofs.Indexed.{short_given, long_given, text_given, short_is, long_is}
 use Rattle.eco_net.proofs.index.NameIndex.insert.Goals as goal
 
-pub returns-clause-ok : goal.returns-clause-ok
-returns-clause-ok c =
-    let u = c.in_ok-insert.ensures.updates in
-    place_given c.self.inside.places.entries c.insert.new.self.entries c.args.name.items c.args.place u.1 u.3
-    ∙ ap (λ m. map.insert m c.args.name.items c.args.place) c.self.view_is
+pub returns-in_ok-insert-in-Some-clause-ok : goal.returns-in_ok-insert-in-Some-clause-ok
+returns-in_ok-insert-in-Some-clause-ok c =
+    let s = c.self.inside in
+    let q = c.args.name.now in
+    let same : c.in-Some.short ≡ q = c.in-Some.ensures.1 in
+    short_given s.shorts.entries c.insert.new.self.entries (by_bytes s.longs.entries) q c.args.place (short_is q c.in-Some.ensures.0) (rw (← same) c.in_ok-insert-in-Some.ensures.updates.0)
+    ∙ ap (λ m. map.insert m q c.args.place) c.self.view_is
+
+pub returns-in_ok-insert-in-None-clause-ok : goal.returns-in_ok-insert-in-None-clause-ok
+returns-in_ok-insert-in-None-clause-ok c =
+    let s = c.self.inside in
+    let q = c.args.name.now in
+    let u = c.in_ok-insert-in-None.ensures.updates in
+    let same : c.in_ok-long-in-None.long.items ≡ q = c.in_ok-long-in-None.ensures.items in
+    long_given s.shorts.entries (by_bytes s.longs.entries) (by_bytes c.insert-in-None.new.self.entries) q c.args.place (long_is q c.in-None.ensures) (rw (← same) (text_given s.longs.entries c.insert-in-None.new.self.entries c.in_ok-long-in-None.long.items c.args.place u.1 u.3))
+    ∙ ap (λ m. map.insert m q c.args.place) c.self.view_is

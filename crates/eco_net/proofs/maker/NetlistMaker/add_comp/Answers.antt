@@ -14,7 +14,7 @@ invariant_of-self-2 c =
     let new : get (netlist L).comps c.args.name.now ≡ None = subst (λ (M : Listing). get (netlist M).comps c.args.name.now ≡ None) (sym c.self.view_is) c.requires.new_name in
     let few : length L.comps < 1100000 = subst (λ (M : Listing). length M.comps < 1100000) (sym c.self.view_is) c.requires.few in
     let row : CompRow = record { name = c.args.name.now; kind = c.args.kind; place = c.args.place; joined = replicate (length (pins_of (kind_of c.args.kind))) None } in
-    rw (c.push_reserved.ensures.items, c.in_ok-reserve.ensures.items, c.in_ok-insert.ensures.ok, c.in_ok-key.ensures.items, c.in_ok-of.ensures, c.len-number.ensures, c.self.inside.comps.ok.0, c.in_ok-joined.ensures, c.pin_count.ensures.count)
+    rw (c.push_reserved.ensures.items, c.in_ok-reserve.ensures.items, c.in_ok-insert.ensures.ok, c.in_ok-of.ensures, c.len-number.ensures, c.self.inside.comps.ok.0, c.in_ok-joined.ensures, c.pin_count.ensures.count)
     (comp_added L _ _ _ c.self.invariant row new few (row_of_none (length L.nets) row (c.pin_count.ensures.is_kind c.requires.own_pins) (length (pins_of (kind_of c.args.kind))) refl refl))
 
 pub returns-clause-named : goal.returns-clause-named
