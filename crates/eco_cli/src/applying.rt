@@ -33,7 +33,7 @@ fn issued(base: Base, overlay: Overlay) -> Issued
 
 /// Why an order fails: for want of memory, or by its fault.
 fn failed(fault: OneFault) -> Failure
-    ensures { (result ≡ Failure.Memory) ⊎ ((fault ≢ OneFault.Memory) × (result ≡ Failure.Refused (Refusal.Apply fault))) }
+    ensures { ((fault ≡ OneFault.Memory) × (result ≡ Failure.Memory)) ⊎ ((fault ≢ OneFault.Memory) × (result ≡ Failure.Refused (Refusal.Apply fault))) }
 {
     match fault {
         OneFault::Memory => Failure::Memory,

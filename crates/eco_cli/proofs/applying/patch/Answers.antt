@@ -34,6 +34,6 @@ returns-in-Ok-apply_one c = (
 
 pub returns-in-Err : goal.returns-in-Err
 returns-in-Err c = ⊎_elim
-    (λ m. rw m tt)
+    (λ m. rw m.1 tt)
     (λ r. rw r.1 (c.in_ok-base.base, c.in_ok-base.ensures, record { one = c.in-Ok.one; order = c.in-Ok.ensures; refused = c.in-Err.ensures.applies; reason = r.0 }))
     c.failed.ensures
