@@ -1,14 +1,15 @@
 //! A name, seen as its bytes.
 
 use crate::memory::Memory;
+use smallvec::SmallVec;
 use std::alloc::Global;
 use std::fmt::{self, Display, Formatter, Write};
 use std::marker::Model;
 
-/// A name of a master, a pin, a net or a component, compared byte by byte.
+/// A name of a master, a pin, a net or a component, compared byte by byte. A short one lies in the value itself.
 #[derive(Debug, Drop)]
 pub struct Name {
-    bytes: Vec<u8>,
+    bytes: SmallVec<u8, 16>,
 }
 
 impl Model for Name {
@@ -28,7 +29,7 @@ impl Name {
         ensures { IfOk result (λ n. n ≡ bytes.now) }
     {
         Ok(Name {
-            bytes: Vec::from_slice(alloc, bytes)?,
+            bytes: SmallVec::from_slice(alloc, bytes)?,
         })
     }
 
