@@ -111,7 +111,7 @@ impl<'a> Reader<'a> {
     pub fn comps(&mut self, alloc: Global) -> Result<Items<Comp>, DefFault>
         ensures { Reads 0 comps_in (many (is_word (codes "-")) comp_within) self.old self.new result }
     {
-        let mut names = HashMap::new(alloc);
+        let mut names = HashMap::with_capacity(alloc, self.names_likely())?;
         let mut comps = Items::new(alloc);
         'comps: while self.next_is(b"-") {
             let room = comps.len() < MOST_COMPS;

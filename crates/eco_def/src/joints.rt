@@ -6,13 +6,17 @@ ghost use Rattle.eco_def.specs.Kept.{joints_left};
 
 use crate::design::Joint;
 use crate::near::NearJoint;
+use smallvec::SmallVec;
 use std::alloc::{AllocError, Global};
 use std::marker::Model;
+
+/// The joints of a net by their distances. Most nets have no more than five, and these lie in the value itself.
+type NearJoints = SmallVec<NearJoint, 5>;
 
 /// How the joints of a net are kept: by their distances where all of them are near, and else whole.
 #[derive(Debug, Drop)]
 enum Kept {
-    Near { from: u32, joints: Vec<NearJoint> },
+    Near { from: u32, joints: NearJoints },
     Whole(Vec<Joint>),
 }
 
@@ -35,14 +39,10 @@ impl Model for Joints {
 }
 
 /// These joints by their distances, the first from a place, if all of them are near.
-fn near_joints(
-    alloc: Global,
-    from: u32,
-    joints: &[Joint],
-) -> Result<Option<Vec<NearJoint>>, AllocError>
+fn near_joints(alloc: Global, from: u32, joints: &[Joint]) -> Result<Option<NearJoints>, AllocError>
     ensures { IfOk result (λ found. IfSome found (λ near. joints_behind from near.items ≡ joints.now)) }
 {
-    let mut near = Vec::with_capacity(alloc, joints.len())?;
+    let mut near = SmallVec::with_capacity(alloc, joints.len())?;
     let mut place = from;
     for joint in joints {
         let Some(next) = NearJoint::of(place, joint) else {
@@ -93,7 +93,7 @@ impl Joints {
         let left = match &self.kept {
             Kept::Near { from, joints } => Left::Near {
                 from: *from,
-                joints,
+                joints: joints.as_slice(),
             },
             Kept::Whole(joints) => Left::Whole(joints),
         };

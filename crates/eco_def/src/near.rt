@@ -8,7 +8,7 @@ use eco_text::Word;
 
 /// A joint whose words are no quoted ones and stand so close that each distance is below 256 bytes: nearly every joint of
 /// a design. It takes 6 bytes where a `Joint` takes 32.
-#[derive(Clone, Copy, Debug, Drop, PartialEq, Eq)]
+#[derive(Clone, Copy, Debug, Default, Drop, PartialEq, Eq)]
 pub struct NearJoint {
     /// From the end of the joint before it to its opening bracket.
     before: u8,

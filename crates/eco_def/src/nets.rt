@@ -59,15 +59,21 @@ impl<'a> Reader<'a> {
         self.joint()
     }
 
-    fn joints(&mut self, alloc: Global, room: usize) -> Result<Joints, DefFault>
+    /// The joints of a net. They are gathered in a list that all nets share, so that none makes one of its own.
+    fn joints(
+        &mut self,
+        alloc: Global,
+        room: usize,
+        scratch: &mut Vec<Joint>,
+    ) -> Result<Joints, DefFault>
         ensures { Reads 0 joints_in (joints_within room) self.old self.new result }
     {
-        let mut joints = Items::new(alloc);
+        scratch.clear();
         'joints: while self.next_is(b"(") {
-            let joint = self.next_joint(joints.len() < room)?;
-            joints.push(joint)?;
+            let joint = self.next_joint(scratch.len() < room)?;
+            scratch.push(joint)?;
         }
-        Ok(Joints::of(alloc, joints.as_slice())?)
+        Ok(Joints::of(alloc, scratch.as_slice())?)
     }
 
     #[tactic(auto, unfolding(crate::specs::Grammar::some_use))]
@@ -137,6 +143,7 @@ impl<'a> Reader<'a> {
         special: bool,
         names: &mut Names<'a>,
         room: Room,
+        scratch: &mut Vec<Joint>,
     ) -> Result<NetStatement, DefFault>
         ensures reads { Reads 1 net_in (net_new_within room (knows names.old)) self.old self.new result }
         ensures names { IfOk result (λ s. Adds names.old names.new (token self.old.text s.name).bytes) }
@@ -145,7 +152,7 @@ impl<'a> Reader<'a> {
     {
         let start = self.word(b"-")?.start;
         let name = self.net_name(names, 0 < room.nets)?;
-        let joints = self.joints(alloc, room.joints)?;
+        let joints = self.joints(alloc, room.joints, scratch)?;
         let usage = self.net_tail()?;
         let end = self.word(b";")?.end;
         Ok(NetStatement {
@@ -169,11 +176,12 @@ impl<'a> Reader<'a> {
         ensures placed { IfOk result (λ ss. ArePlacedBetween self.old self.new ss) }
         ensures kind { IfOk result (λ ss. AreOfKind special ss) }
     {
-        let mut names = HashMap::new(alloc);
+        let mut names = HashMap::with_capacity(alloc, self.names_likely())?;
         let mut nets = Items::new(alloc);
+        let mut scratch = Vec::new(alloc);
         let mut room_left = room;
         'statements: while self.next_is(b"-") {
-            let net = self.net(alloc, special, &mut names, room_left)?;
+            let net = self.net(alloc, special, &mut names, room_left, &mut scratch)?;
             room_left = room_left.behind(&net);
             nets.push(net)?;
         }

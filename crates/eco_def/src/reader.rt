@@ -83,6 +83,12 @@ impl<'a> Reader<'a> {
         Reader { text, words, ahead }
     }
 
+    /// How many names a section is likely to have: a text has about one in so many bytes. More is no harm but memory, and
+    /// fewer only lets a map of them grow.
+    pub fn names_likely(&self) -> usize {
+        self.text.len() / 128
+    }
+
     /// Whether the next word is this one.
     pub fn next_is(&self, keyword: &[u8]) -> bool
         ensures { result ≡ begins (is_word keyword.now) (left self.now) }

@@ -14,4 +14,4 @@ loop-joint-preserved c =
     let w : Word = record { start = 0; end = 0; quoted = false } in
     let d : Joint = record { comp = w; pin = w; start = 0; end = 0 } in
     one_more_kept c.args.from c.loop-joint.near.items _ c.in-Some.next c.args.joints.now c.loop-joint.joint-index d c.loop-joint.place
-    c.loop-joint-test.true c.in_ok-push.ensures.items c.loop-joint.invariant.0 c.loop-joint.invariant.1 c.in-Some.ensures
+    c.loop-joint-test.true c.in_ok-push.ensures.ok c.loop-joint.invariant.0 c.loop-joint.invariant.1 c.in-Some.ensures

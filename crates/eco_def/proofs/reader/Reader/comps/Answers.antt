@@ -12,7 +12,7 @@ pub returns-in_err-comp : goal.returns-in_err-comp
 returns-in_err-comp c =
     let i = c.comps.invariant in
     let front = map (comp_in c.args.self.now.text) c.comps.comps in
-    let p = err_from_is_err_and c.from_residual.result c.from_residual.ensures.1 in
+    let p = err_from_is_err_and c.from_residual-in_err-comp.result c.from_residual-in_err-comp.ensures.1 in
     rw (p.1, p.2)
     (stuck (is_word (codes "-")) comp_within comp_in comps_in c.args.self.now front c.comps.self c.comp.new.self c.in_err-comp.field-0.0 i.1 c.comps-test.ensures
     (read_known_in 1 comp_in comp_new_within c.comps.names (map (λ k. k.name.bytes) front) c.comps.self c.comp.new.self _ _ (nat_lt (length front) 1000000) (ap (λ k. nat_lt k 1000000) (c.len-room.ensures ∙ sym (length-map c.comps.comps (comp_in c.args.self.now.text)))) i.0 c.in_err-comp.ensures.reads))

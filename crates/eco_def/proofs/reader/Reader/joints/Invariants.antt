@@ -8,7 +8,7 @@ use Rattle.eco_def.proofs.reader.Reader.joints.Given as goal
 
 -- the joints that were read
 abbrev pub invariant-joints : goal.invariant-joints
-invariant-joints l = Loops (is_word (codes "(")) (joint_within l.fn.room) l.initial.self (map (joint_in l.initial.self.text) l.joints) l.self
+invariant-joints l = Loops (is_word (codes "(")) (joint_within l.fn.room) l.initial.self (map (joint_in l.initial.self.text) l.scratch.items) l.self
 
 abbrev pub decreases-joints : goal.decreases-joints
 decreases-joints l = size (left l.self)

@@ -13,7 +13,7 @@ pub returns-in_err-net-clause-reads : goal.returns-in_err-net-clause-reads
 returns-in_err-net-clause-reads c =
     let i = c.statements.invariant in
     let front = map (net_in c.args.self.now.text) c.statements.nets in
-    let p = err_from_is_err_and c.from_residual.result c.from_residual.ensures.1 in
+    let p = err_from_is_err_and c.from_residual-in_err-net.result c.from_residual-in_err-net.ensures.1 in
     rw (p.1, p.2)
     (stuck (is_word (codes "-")) (net_within c.args.room) net_in nets_in c.args.self.now front c.statements.self c.net.new.self c.in_err-net.field-0.0 i.1 c.statements-test.ensures
     (read_known_in 1 net_in net_new_within c.statements.names (map (λ k. k.name.bytes) front) c.statements.self c.net.new.self _ c.statements.room_left (room_behind c.args.room front) i.4 i.0 c.in_err-net.ensures.reads))
