@@ -2,16 +2,14 @@
 use Rattle.std.specs.Global.{Global}
 use Rattle.std.specs.Str.{bytes_eq}
 use Rattle.std.specs.Option.{option_or}
-use Rattle.std.specs.BTreeMap as tree
+use Rattle.std.specs.HashMap as hash
 use Rattle.std.specs.Map.{lookup, KeepsOthers, IsKeyTest, AreApart}
-use Rattle.std.specs.Cmp.{eq_by_cmp_equiv}
-use Rattle.std.specs.Ordering.{eq_by_cmp}
-use Rattle.std.proofs.lemmas.Cmp.{nat_list_cmp_total}
-use Rattle.std.specs.BTreeMap.{BTreeMap}
-use Rattle.std.specs.Cmp.Lexicographic.{slice_cmp}
+use Rattle.std.specs.HashMap.{HashMap}
+use Rattle.std.specs.Cmp.Lexicographic.{nat_list_eq_equiv}
+use Rattle.std.specs.declared.hash.FoldHasher.{FoldHasher}
+use Rattle.std.specs.declared.hash.BuildHasherDefault.{BuildHasherDefault}
 use Rattle.std.specs.declared.vec.Vec.{Vec}
-use Rattle.std.proofs.Common.{◌≡◌, ℕ, suc, Bool, true, false, ◌||◌, List, [], ◌∷◌, ◌++◌, length, map, slice_get, Option, Some, None, is_some, is_eq, nat_cmp, option_map, option_and_then, refl, ap, sym, subst, ◌∙◌, if◌then◌else◌}
-use Rattle.std.proofs.lemmas.Map.Text.{is_eq-slice_cmp}
+use Rattle.std.proofs.Common.{◌≡◌, ℕ, suc, Bool, true, false, ◌||◌, List, [], ◌∷◌, ◌++◌, length, map, slice_get, Option, Some, None, is_some, option_map, option_and_then, refl, ap, sym, subst, ◌∙◌, if◌then◌else◌}
 use Rattle.std.proofs.lemmas.Slice.Eq.{bytes_eq-Decides}
 use Rattle.eco_lef.specs.declared.master.Master.{Master}
 use Rattle.eco_lef.specs.Parsing.{is_among}
@@ -26,28 +24,19 @@ kept_apart : {K X : Type 0} (eq : K → K → Bool) (test : K → Bool) (old new
 unfolding KeepsOthers
 kept_apart eq test old new keeps = keeps
 
-apart : (a b c : List ℕ) → bytes_eq a b ≡ false → is_eq (slice_cmp nat_cmp a c) ≡ true → is_eq (slice_cmp nat_cmp b c) ≡ false
-apart a b c ne same = go (is_eq (slice_cmp nat_cmp b c)) refl
-  where
-    go : (t : Bool) → is_eq (slice_cmp nat_cmp b c) ≡ t → t ≡ false
-    go false is = refl
-    go true is =
-        let ac : a ≡ c = (bytes_eq-Decides a c).0 (sym (is_eq-slice_cmp a c) ∙ same) in
-        let bc : b ≡ c = (bytes_eq-Decides b c).0 (sym (is_eq-slice_cmp b c) ∙ is) in
-        let both : bytes_eq a b ≡ true = (bytes_eq-Decides a b).1 (ac ∙ sym bc) in
-        let clash : true ≡ false = sym both ∙ ne in
-        cc
+apart : (a b c : List ℕ) → bytes_eq a b ≡ false → bytes_eq a c ≡ true → bytes_eq b c ≡ false
+apart a b c differ same = nat_list_eq_equiv.symm b c ∙ sym (nat_list_eq_equiv.congr a c b same) ∙ differ
 
 -- what a map has after a name was put in
-updated : (old new : BTreeMap (Vec ℕ Global) ℕ) (k : Vec ℕ Global) (place : ℕ) → tree.Updates (λ x y. slice_cmp nat_cmp x.items y.items) old new k (Some place) →
+updated : (old new : HashMap (Vec ℕ Global) ℕ (BuildHasherDefault FoldHasher)) (k : Vec ℕ Global) (place : ℕ) → hash.Updates (λ x y. bytes_eq x.items y.items) old new k (Some place) →
     (q : List ℕ) (b : Bool) → bytes_eq k.items q ≡ b → place_of new q ≡ (if b then Some place else place_of old q)
 updated old new k place updates q true is = subst (λ n. place_of new n ≡ Some place) ((bytes_eq-Decides k.items q).0 is) updates.1
 updated old new k place updates q false is =
-    kept_apart (eq_by_cmp (λ x y. slice_cmp nat_cmp x.items y.items)) (λ y. is_eq (slice_cmp nat_cmp k.items y.items)) old.entries new.entries updates.3
-    (λ y. is_eq (slice_cmp nat_cmp q y.items)) (λ x y. (eq_by_cmp_equiv nat_list_cmp_total).congr q x.items y.items) (λ y. apart k.items q y.items is)
+    kept_apart (λ x y. bytes_eq x.items y.items) (λ y. bytes_eq k.items y.items) old.entries new.entries updates.3
+    (λ y. bytes_eq q y.items) (λ x y. nat_list_eq_equiv.congr q x.items y.items) (λ y. apart k.items q y.items is)
 
 -- one more name, which wasn't known
-pub one_more_name : (old new : BTreeMap (Vec ℕ Global) ℕ) (k : Vec ℕ Global) (place : ℕ) → tree.Updates (λ x y. slice_cmp nat_cmp x.items y.items) old new k (Some place) → is_some (place_of old k.items) ≡ false →
+pub one_more_name : (old new : HashMap (Vec ℕ Global) ℕ (BuildHasherDefault FoldHasher)) (k : Vec ℕ Global) (place : ℕ) → hash.Updates (λ x y. bytes_eq x.items y.items) old new k (Some place) → is_some (place_of old k.items) ≡ false →
     (q : List ℕ) → place_of new q ≡ option_or (place_of old q) (if bytes_eq k.items q then Some place else None)
 one_more_name old new k place updates unknown q = go (bytes_eq k.items q) refl
   where
@@ -109,7 +98,7 @@ map_push f [] x = refl
 map_push f (y ∷ xs) x = ap (λ k. f y ∷ k) (map_push f xs x)
 
 -- a list and a map of its names, with one more
-pub named_push : (old new : BTreeMap (Vec ℕ Global) ℕ) (ns ms : List (List ℕ)) (n m : List ℕ) (place : ℕ) → ms ≡ ns ++ n ∷ [] → m ≡ n → place ≡ length ns → AreNames old ns →
+pub named_push : (old new : HashMap (Vec ℕ Global) ℕ (BuildHasherDefault FoldHasher)) (ns ms : List (List ℕ)) (n m : List ℕ) (place : ℕ) → ms ≡ ns ++ n ∷ [] → m ≡ n → place ≡ length ns → AreNames old ns →
     ((q : List ℕ) → place_of new q ≡ option_or (place_of old q) (if bytes_eq m q then Some place else None)) → AreNames new ms
 named_push old new ns ms n m place pushed same at are adds q =
     adds q ∙ ap (λ o. option_or o (if bytes_eq m q then Some place else None)) (are q)

@@ -3,18 +3,18 @@ use Rattle.std.specs.Prelude.{◌≡◌, ℕ, suc, Bool, List, [], ◌∷◌, ma
 use Rattle.std.specs.Str.{bytes_eq}
 use Rattle.std.specs.Global.{Global}
 use Rattle.std.specs.declared.vec.Vec.{Vec}
-use Rattle.std.specs.BTreeMap.{BTreeMap, get_by}
-use Rattle.std.specs.Cmp.Lexicographic.{slice_cmp}
-use Rattle.std.specs.Ordering.{nat_cmp}
+use Rattle.std.specs.HashMap.{HashMap, get_by}
+use Rattle.std.specs.declared.hash.FoldHasher.{FoldHasher}
+use Rattle.std.specs.declared.hash.BuildHasherDefault.{BuildHasherDefault}
 use Rattle.eco_lef.specs.declared.master.Master.{Master}
 use Rattle.eco_lef.specs.declared.master.MasterPin.{MasterPin}
 
 -- the place that a map has for a name
-abbrev pub place_of : BTreeMap (Vec ℕ Global) ℕ → List ℕ → Option ℕ
-place_of names q = get_by (λ k. slice_cmp nat_cmp q k.items) names
+abbrev pub place_of : HashMap (Vec ℕ Global) ℕ (BuildHasherDefault FoldHasher) → List ℕ → Option ℕ
+place_of names q = get_by (λ k. bytes_eq q k.items) names
 
 -- whether a map has a name
-abbrev pub knows : BTreeMap (Vec ℕ Global) ℕ → List ℕ → Bool
+abbrev pub knows : HashMap (Vec ℕ Global) ℕ (BuildHasherDefault FoldHasher) → List ℕ → Bool
 knows names q = is_some (place_of names q)
 
 -- where a name stands first in a list
@@ -23,7 +23,7 @@ first_place [] q = None
 first_place (n ∷ ns) q = if bytes_eq n q then Some 0 else option_map (λ i. suc i) (first_place ns q)
 
 -- the map has each name of a list, with the place where it stands first
-abbrev pub AreNames : BTreeMap (Vec ℕ Global) ℕ → List (List ℕ) → Type 0
+abbrev pub AreNames : HashMap (Vec ℕ Global) ℕ (BuildHasherDefault FoldHasher) → List (List ℕ) → Type 0
 AreNames names ns = (q : List ℕ) → place_of names q ≡ first_place ns q
 
 abbrev pub names_of : List Master → List (List ℕ)

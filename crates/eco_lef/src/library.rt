@@ -4,7 +4,7 @@ use crate::master::Master;
 use crate::names::{Names, add_name, has_name};
 use sqlite_items::Items;
 use std::alloc::{AllocError, Global};
-use std::collections::BTreeMap;
+use std::collections::HashMap;
 use std::marker::Model;
 
 /// The masters of a library in the order of its text, which are found by their names.
@@ -37,7 +37,7 @@ impl Library {
     {
         Library {
             masters: Items::new(alloc),
-            places: BTreeMap::new(alloc),
+            places: HashMap::new(alloc),
         }
     }
 

@@ -6,10 +6,10 @@ ghost use Rattle.std.specs.Str.{bytes_eq};
 ghost use Rattle.eco_lef.specs.Known.{place_of, knows};
 
 use std::alloc::{AllocError, Global};
-use std::collections::BTreeMap;
+use std::collections::HashMap;
 
 /// The names of a list, each with the place where it stands first.
-pub type Names = BTreeMap<Vec<u8>, usize>;
+pub type Names = HashMap<Vec<u8>, usize>;
 
 pub fn has_name(names: &Names, name: &[u8]) -> bool
     ensures { result ≡ knows names.now name.now }

@@ -4,7 +4,7 @@ use crate::master::MasterPin;
 use crate::names::{Names, add_name, has_name};
 use sqlite_items::Items;
 use std::alloc::{AllocError, Global};
-use std::collections::BTreeMap;
+use std::collections::HashMap;
 use std::marker::Model;
 
 /// Pins in order, and their names.
@@ -36,7 +36,7 @@ impl PinList {
     {
         PinList {
             pins: Items::new(alloc),
-            names: BTreeMap::new(alloc),
+            names: HashMap::new(alloc),
         }
     }
 
