@@ -1,5 +1,5 @@
 -- What an index has at a name, and after an insert
-use Rattle.std.proofs.Common.{◌≡◌, ◌<◌, ◌≤◌, ℕ, Bool, true, false, not, cond, List, [], ◌∷◌, ◌++◌, length, Option, Some, None, Vec, refl, sym, ap, ◌∙◌, subst, arith}
+use Rattle.std.proofs.Common.{◌≡◌, ℕ, Bool, true, false, not, cond, List, [], ◌∷◌, ◌++◌, Option, Some, None, Vec, refl, sym, ap, ◌∙◌, subst}
 use Rattle.std.specs.List.{AllZip, filter}
 use Rattle.std.specs.Map.{lookup, KeepsOthers}
 use Rattle.std.specs.Str.{bytes_eq}
@@ -8,9 +8,9 @@ use Rattle.std.specs.Cmp.Lexicographic.{nat_list_cmp_total, nat_list_eq_equiv, s
 use Rattle.std.specs.FinMap.{get, insert, from_entries, find, get-from_entries, get-insert, same_map}
 use Rattle.std.proofs.lemmas.Map.Entries.{lookup-filter-keys}
 use Rattle.std.proofs.lemmas.Map.Lookups.{exact_bytes}
-use borrow.Author.Tests.{lt-ltb, le-ltb}
 use Rattle.eco_net.specs.Netlist.{Name, name_cmp}
-use Rattle.eco_net.specs.Index.{is_short, by_bytes, placed}
+use Rattle.eco_net.specs.Index.{is_short, short_of, by_bytes, placed}
+use Rattle.eco_net.proofs.Basics.{same_Some, not_None}
 
 -- whether a key has these bytes
 abbrev has_bytes : {Z : Type 0} → Name → Vec ℕ Z → Bool
@@ -61,11 +61,20 @@ pub text_found : {Z : Type 0} (q : Name) (es : List (Vec ℕ Z × ℕ)) → at q
 text_found q [] = refl
 text_found q (e ∷ es) = ap (cond (bytes_eq q e.0.items) (Some e.1)) (text_found q es)
 
-pub short_is : (q : Name) → length q ≤ 15 → is_short q ≡ true
-short_is q few = lt-ltb (length q) 16 (omega arith)
+of_short : (b : Bool) (q s : Name) → cond b (Some q) None ≡ Some s → (b ≡ true) × (s ≡ q)
+of_short true q s e = (refl, sym (same_Some e))
+of_short false q s e = absurd (not_None (sym e))
 
-pub long_is : (q : Name) → 15 < length q → is_short q ≡ false
-long_is q many = le-ltb (length q) 16 (omega arith)
+of_long : (b : Bool) (q : Name) → cond b (Some q) None ≡ None → b ≡ false
+of_long true q e = absurd (not_None e)
+of_long false q e = refl
+
+-- a name that is kept in place is short, and itself
+pub short_is : (q s : Name) → short_of q ≡ Some s → (is_short q ≡ true) × (s ≡ q)
+short_is q s e = of_short (is_short q) q s e
+
+pub long_is : (q : Name) → short_of q ≡ None → is_short q ≡ false
+long_is q e = of_long (is_short q) q e
 
 others : {K X : Type 0} {eq : K → K → Bool} {test : K → Bool} (ds es : List (K × X)) → KeepsOthers eq test ds es → (other : K → Bool) → ((x y : K) → other x ≡ true → other y ≡ eq x y) → ((x : K) → test x ≡ true → other x ≡ false) → lookup other es ≡ lookup other ds
 unfolding KeepsOthers

@@ -1,21 +1,15 @@
 -- The pins of a gate and of a box by number
-use Rattle.std.proofs.Common.{◌≡◌, ℕ, zero, suc, ◌+◌, ◌-◌, ◌<◌, ◌≤◌, Bool, true, cond, List, [], ◌∷◌, ◌++◌, map, length, get_or, take, drop, Option, Some, None, refl, sym, ap, ap₂, ◌∙◌, arith, slice_get, is_some, true≢false}
-use Rattle.std.specs.Option.{option_map, option_to_list}
-use Rattle.std.specs.List.{filter, All}
+use Rattle.std.proofs.Common.{◌≡◌, ℕ, zero, suc, ◌+◌, ◌-◌, ◌<◌, ◌≤◌, Bool, true, List, [], ◌∷◌, ◌++◌, map, length, get_or, Option, Some, None, refl, sym, ap, ap₂, ◌∙◌, arith, slice_get, is_some, true≢false}
+use Rattle.std.specs.Option.{option_map}
 use Rattle.std.proofs.lemmas.Option.{slice_get-map, slice_get-get_or}
-use Rattle.std.proofs.lemmas.List.{length-map, take-append-drop, drop_more}
-use Rattle.std.proofs.lemmas.List.Elements.{filter-append, All-filter}
+use Rattle.std.proofs.lemmas.List.{length-map}
 use Rattle.eco_func.specs.declared.output.OutputFn.{OutputFn}
 use Rattle.eco_func.specs.Masters.{MasterTables}
 use Rattle.eco_net.specs.declared.kind.BoxPin.{BoxPin}
 use Rattle.eco_net.specs.declared.kind.Kind.TheVariants.{Gate as GivenGate, Boxed as GivenBox}
 use Rattle.eco_net.specs.Netlist.{Name, Role, Reads, Computes, Outside, pins_of}
-use Rattle.eco_net.specs.Listing.{Listing, bits_of, kind_of, IsKnownPin}
-use Rattle.eco_net.specs.ByNumber.{all_pins, pins_on, is_on, sole}
-use Rattle.eco_net.proofs.Basics.{has_from_contains}
+use Rattle.eco_net.specs.Listing.{bits_of, kind_of}
 use Rattle.eco_net.proofs.MasterPins.{gate_length, box_length}
-use Rattle.eco_net.proofs.AllPins.{known_has}
-use Rattle.std.proofs.lemmas.List.Elements.{Contains-get_or}
 
 pub append_left : {A : Type 0} (xs ys : List A) (k : ℕ) → k < length xs → slice_get (xs ++ ys) k ≡ slice_get xs k
 append_left [] ys k h = absurd (omega arith)
@@ -80,24 +74,8 @@ box_at ps qs e k d h =
     ∙ ap (option_map box_pin) (slice_get-get_or ps k d (omega (arith, h, box_length ps)))
     ∙ sym (ap (λ xs. Some (box_pin (get_or xs k d))) e)
 
--- ---- the one driving pin among some
+-- ---- options
 
 pub some_of : {A : Type 0} (o : Option A) → is_some o ≡ true → (x : A) × (o ≡ Some x)
 some_of None e = absurd (true≢false (sym e))
 some_of (Some x) e = (x, refl)
-
-pub two_found : {A : Type 0} (t : A → Bool) (xs : List A) (i : ℕ) (x d : A) → filter t (take i xs) ≡ x ∷ [] → i < length xs → t (get_or xs i d) ≡ true → sole (filter t xs) ≡ None
-two_found t xs i x d e h p =
-    let y = get_or xs i d in
-    ap (λ ys. sole (filter t ys)) (sym (take-append-drop i xs) ∙ ap (λ ys. take i xs ++ ys) (drop_more xs i d h))
-    ∙ ap sole (filter-append t (take i xs) (y ∷ drop (i + 1) xs))
-    ∙ ap₂ (λ a b. sole (a ++ cond b (y ∷ filter t (drop (i + 1) xs)) (filter t (drop (i + 1) xs)))) e p
-
-pub one_found : {A : Type 0} (o : Option A) → sole (option_to_list o) ≡ o
-one_found None = refl
-one_found (Some x) = refl
-
--- ---- known pins
-
-pub all_known : (L : Listing) (n : ℕ) → All (IsKnownPin L) (pins_on L n)
-all_known L n = All-filter (is_on L n) (IsKnownPin L) (all_pins L) (λ k d h. known_has L _ (has_from_contains (all_pins L) _ (Contains-get_or (all_pins L) k d h)))

@@ -43,5 +43,6 @@ pub mod DepthNames
 pub mod Removed
 pub mod JoinedNames
 pub mod Filling
+pub mod Noted
 mod Examples
 mod Loops

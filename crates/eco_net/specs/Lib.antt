@@ -27,3 +27,4 @@ pub mod ValuesOf
 pub mod Removal
 pub mod JoinedPins
 pub mod PinLists
+pub mod Driving

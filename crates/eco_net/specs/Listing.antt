@@ -1,9 +1,9 @@
 -- A netlist as it was listed: its nets, components and top pins in the order in which they were added, which numbers them.
-use Rattle.std.specs.Prelude.{◌≡◌, ℕ, zero, suc, ◌<◌, ◌^◌, Bool, true, List, [], ◌∷◌, map, length, Option, Some, None, slice_get, slice_set}
+use Rattle.std.specs.Prelude.{◌≡◌, ℕ, zero, suc, ◌<◌, ◌^◌, Bool, true, List, [], ◌∷◌, map, length, Option, Some, None, MatchOption, slice_get, slice_set}
 use Rattle.std.specs.List.{filter, Contains, IsDistinct, range_with_len}
 use Rattle.std.specs.Option.{option_map, unwrap_or}
 use Rattle.std.specs.Ordering.{eq_by_cmp}
-use Rattle.std.specs.FinMap.{from_entries}
+use Rattle.std.specs.FinMap.{get, from_entries}
 use Rattle.std.specs.FinSet.{from_list}
 use Rattle.eco_func.specs.Tables.{TruthTable, at}
 use Rattle.eco_net.specs.declared.kind.Kind.{Kind as Given}
@@ -13,6 +13,7 @@ use Rattle.eco_net.specs.declared.kind.PinUse.TheVariants.{Reads as UseReads, Co
 use Rattle.eco_net.specs.declared.rows.NetRow.{NetRow}
 use Rattle.eco_net.specs.declared.rows.CompRow.{CompRow}
 use Rattle.eco_net.specs.declared.rows.TopRow.{TopRow}
+use Rattle.eco_net.specs.declared.ids.CompId.{CompId}
 use Rattle.eco_net.specs.declared.ids.PinRef.{PinRef}
 use Rattle.eco_net.specs.declared.ids.PinRef.TheVariants.{Top as TopNumber, Pin as PinNumber}
 use Rattle.eco_net.specs.Netlist.{Name, name_cmp, Kind, Gate, Boxed, Netlist, Component, Top, Pin, TopPin, CompPin, Role, Reads, Computes, Outside, pins_of}
@@ -132,6 +133,14 @@ abbrev pub with_tie : List NetRow → ℕ → List NetRow
 with_tie [] n = []
 with_tie (r ∷ rows) zero = record r { tie = true } ∷ rows
 with_tie (r ∷ rows) (suc n) = r ∷ with_tie rows n
+
+-- the component of a number
+abbrev pub comp_of : ℕ → CompId
+comp_of c = record { 0 = c }
+
+-- the component of a name: its number, or none
+abbrev pub FindsComp : Listing → Name → Option CompId → Type 0
+FindsComp L name found = MatchOption found (get (netlist L).comps name ≡ None) (λ c. slice_get (comp_names L) c.0 ≡ Some name)
 
 -- where a name stands in a list
 abbrev pub FindsName : List Name → Name → Option ℕ → Type 0

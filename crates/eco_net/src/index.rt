@@ -1,5 +1,8 @@
 //! Places by name.
 
+ghost use Rattle.std.specs.Prelude.{◌≡◌, map, IfOk};
+ghost use Rattle.eco_net.specs.Index.{short_of};
+
 use crate::short_name::ShortName;
 use eco_func::Memory;
 use std::alloc::Global;
@@ -27,9 +30,21 @@ impl Model for NameIndex {
     ghost view = { λ s. map.from_entries (placed s.shorts.entries (by_bytes s.longs.entries)) };
 }
 
+/// Each name in place, if it is short.
+fn shorts_of(alloc: Global, names: &[&[u8]]) -> Result<Vec<Option<ShortName>>, Memory>
+    ensures { IfOk result (λ shorts. shorts.items ≡ map (λ n. short_of n.now) names.now) }
+{
+    let mut shorts = Vec::with_capacity(alloc, names.len())?;
+    for name in names {
+        shorts.push(ShortName::of(name))?;
+    }
+    Ok(shorts)
+}
+
 impl NameIndex {
-    ghost use Rattle.std.specs.Prelude.{◌≡◌, IfOk, OnOk, OnErr};
+    ghost use Rattle.std.specs.Prelude.{◌≡◌, map as each, IfOk, OnOk, OnErr};
     ghost use Rattle.std.specs.FinMap as map;
+    ghost use Rattle.eco_net.specs.Index.{short_of};
 
     /// No names.
     pub(crate) fn new(alloc: Global) -> NameIndex
@@ -51,14 +66,39 @@ impl NameIndex {
         })
     }
 
+    /// The place of a name, which is at hand in place if it is short.
+    fn find_as(&self, short: Option<ShortName>, name: &[u8]) -> Option<u32>
+        requires { short ≡ short_of name.now }
+        ensures { result ≡ map.get self.now name.now }
+    {
+        match short {
+            Some(short) => self.shorts.get(&short).copied(),
+            None => self.longs.get(name).copied(),
+        }
+    }
+
     /// The place of a name.
     pub(crate) fn find(&self, name: &[u8]) -> Option<u32>
         ensures { result ≡ map.get self.now name.now }
     {
-        match ShortName::of(name) {
-            Some(short) => self.shorts.get(&short).copied(),
-            None => self.longs.get(name).copied(),
+        self.find_as(ShortName::of(name), name)
+    }
+
+    /// The place of each name. A look-up waits for memory, and where nothing stands between two of them they wait at the
+    /// same time.
+    pub(crate) fn find_all(
+        &self,
+        alloc: Global,
+        names: &[&[u8]],
+    ) -> Result<Vec<Option<u32>>, Memory>
+        ensures { IfOk result (λ places. places.items ≡ each (λ n. map.get self.now n.now) names.now) }
+    {
+        let shorts = shorts_of(alloc, names)?;
+        let mut places = Vec::with_capacity(alloc, names.len())?;
+        for (at, name) in names.iter().enumerate() {
+            places.push(self.find_as(shorts[at], name))?;
         }
+        Ok(places)
     }
 
     /// Gives a name its place.

@@ -1,13 +1,14 @@
 //! The nets of a component's pins.
 
 use eco_func::Memory;
+use smallvec::SmallVec;
 use std::alloc::Global;
 use std::marker::Model;
 
-/// For each pin of a component, in order, the number of its net, or none.
+/// For each pin of a component, in order, the number of its net, or none. Those of a few pins lie in the value itself.
 #[derive(Drop)]
 pub struct Joints {
-    nets: Vec<Option<u32>>,
+    nets: SmallVec<Option<u32>, 4>,
 }
 
 impl Model for Joints {
@@ -27,7 +28,7 @@ impl Joints {
         ensures { IfOk result (λ j. j ≡ replicate pins None) }
     {
         Ok(Joints {
-            nets: vec![in alloc; None; pins]?,
+            nets: SmallVec::from_elem(alloc, None, pins)?,
         })
     }
 
@@ -42,7 +43,11 @@ impl Joints {
     pub(crate) fn joined(&self) -> usize
         ensures { result ≡ count_by is_some self.now }
     {
-        self.nets.iter().filter(|net| net.is_some()).count()
+        self.nets
+            .as_slice()
+            .iter()
+            .filter(|net| net.is_some())
+            .count()
     }
 
     /// The net of a pin.
@@ -50,7 +55,7 @@ impl Joints {
         requires { pin < length self.now }
         ensures { slice_get self.now pin ≡ Some result }
     {
-        self.nets[pin]
+        self.nets.as_slice()[pin]
     }
 
     /// Puts a pin on a net.
@@ -58,7 +63,7 @@ impl Joints {
         requires { pin < length self.old }
         ensures { self.new ≡ slice_set self.old pin (Some net) }
     {
-        self.nets[pin] = Some(net);
+        self.nets.as_mut_slice()[pin] = Some(net);
     }
 
     /// Takes a pin off its net.
@@ -66,7 +71,7 @@ impl Joints {
         requires { pin < length self.old }
         ensures { self.new ≡ slice_set self.old pin None }
     {
-        self.nets[pin] = None;
+        self.nets.as_mut_slice()[pin] = None;
     }
 
     /// The same nets of the same pins.
@@ -74,7 +79,7 @@ impl Joints {
         ensures { IfOk result (λ j. j ≡ self.now) }
     {
         Ok(Joints {
-            nets: Vec::from_slice(alloc, &self.nets)?,
+            nets: SmallVec::from_slice(alloc, self.nets.as_slice())?,
         })
     }
 }

@@ -7,6 +7,7 @@
 mod copies;
 mod cut;
 mod depth;
+mod drivers;
 mod evaluation;
 mod gates;
 mod ids;

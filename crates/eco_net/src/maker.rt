@@ -59,6 +59,22 @@ impl NetlistMaker {
         })
     }
 
+    /// A netlist of nothing, with room for so many nets and components.
+    pub fn with_room(alloc: Global, nets: usize, comps: usize) -> Result<NetlistMaker, Memory>
+        ensures rows { IfOk result (λ m. m ≡ record { nets = []; comps = []; tops = []; reserved = [] }) }
+        ensures named { IfOk result (λ m. netlist m ≡ empty_netlist) }
+    {
+        Ok(NetlistMaker {
+            nets: Vec::with_capacity(alloc, nets)?,
+            comps: Vec::with_capacity(alloc, comps)?,
+            tops: Vec::new(alloc),
+            reserved: Vec::new(alloc),
+            net_places: NameIndex::with_capacity(alloc, nets)?,
+            comp_places: NameIndex::with_capacity(alloc, comps)?,
+            reserved_places: NameIndex::new(alloc),
+        })
+    }
+
     /// Adds a net of a new name, with its value if it is a supply.
     pub fn add_net(
         &mut self,

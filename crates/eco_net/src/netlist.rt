@@ -1,10 +1,11 @@
 //! A netlist: what was listed, the pins of each net and its driver.
 
+use crate::drivers::drivers_of;
 use crate::ids::{CompId, Counts, NetId, PinRef, TopId};
 use crate::kind::Kind;
 use crate::maker::NetlistMaker;
 use crate::pin_lists::PinLists;
-use crate::pins::{drivers_of, pins_by_net};
+use crate::pins::pins_by_net;
 use eco_func::Memory;
 use eco_text::{Dir, Point};
 use std::alloc::Global;
@@ -48,7 +49,7 @@ impl NetlistMaker {
     {
         let _listing = self.net_count();
         let on_net = pins_by_net(alloc, &self)?;
-        let drivers = drivers_of(alloc, &self, &on_net)?;
+        let drivers = drivers_of(alloc, &self)?;
         Ok(Netlist {
             listed: self,
             on_net,

@@ -1,16 +1,13 @@
-//! The pins of each net, and its driver.
+//! The pins of each net.
 
 ghost use Rattle.std.specs.Prelude.{◌≡◌, ◌<◌, ◌^◌, ℕ, length, slice_index, IfOk};
-ghost use Rattle.std.specs.List.{filter, All};
-ghost use Rattle.eco_net.specs.Listing.{Listing, IsKnownPin};
-ghost use Rattle.eco_net.specs.ByNumber.{drives, by_net, tops_to, pins_to, all_pins, sole, drivers, pin_count};
+ghost use Rattle.eco_net.specs.ByNumber.{by_net, tops_to, pins_to, all_pins, pin_count};
 ghost use Rattle.eco_net.specs.PinLists.{put_all};
 
 use crate::ids::{CompId, PinRef, TopId};
 use crate::maker::NetlistMaker;
 use crate::pin_lists::{Filling, PinLists};
 use eco_func::Memory;
-use eco_text::Dir;
 use std::alloc::Global;
 
 /// Puts each top pin on its net.
@@ -61,51 +58,4 @@ pub(crate) fn pins_by_net(alloc: Global, listed: &NetlistMaker) -> Result<PinLis
     let mut filled = counted.with_places(alloc)?;
     put_pins(listed, &mut filled);
     Ok(filled.finish())
-}
-
-impl NetlistMaker {
-    /// Whether a pin drives the net that it is on.
-    pub(crate) fn is_driving(&self, pin: PinRef) -> bool
-        requires { IsKnownPin self.now pin }
-        ensures { result ≡ drives self.now pin }
-    {
-        match pin {
-            PinRef::Top(top) => self.top(top.0).dir != Dir::Output,
-            PinRef::Pin(comp, pin) => self.comp(comp.0).kind.pin_use(pin as usize).is_driving(),
-        }
-    }
-}
-
-/// The one driving pin among the pins of a net.
-fn driver_among(listed: &NetlistMaker, pins: &[PinRef]) -> Option<PinRef>
-    requires { All (IsKnownPin listed.now) pins.now }
-    ensures { result ≡ sole (filter (drives listed.now) pins.now) }
-{
-    let mut found = None;
-    for pin in pins {
-        if listed.is_driving(*pin) {
-            if found.is_some() {
-                return None;
-            }
-            found = Some(*pin);
-        }
-    }
-    found
-}
-
-/// The one driving pin of each net.
-pub(crate) fn drivers_of(
-    alloc: Global,
-    listed: &NetlistMaker,
-    on: &PinLists,
-) -> Result<Vec<Option<PinRef>>, Memory>
-    requires { on.now ≡ by_net listed.now (all_pins listed.now) }
-    ensures { IfOk result (λ found. found.items ≡ drivers listed.now) }
-{
-    let nets = listed.net_count();
-    let mut found = Vec::with_capacity(alloc, nets as usize)?;
-    for net in 0..nets {
-        found.push(driver_among(listed, on.pins_of(net)))?;
-    }
-    Ok(found)
 }

@@ -1,9 +1,11 @@
 //! What was listed, by number and by name.
 
-ghost use Rattle.std.specs.Prelude.{◌≡◌, ◌<◌, Some, None, length, slice_get, MatchOption};
+ghost use Rattle.std.specs.Prelude.{◌≡◌, ◌<◌, Some, None, length, slice_get, MatchOption, IfOk};
 ghost use Rattle.std.specs.FinMap.{get};
+ghost use Rattle.std.specs.List.{AllZip};
+ghost use Rattle.std.specs.Option.{option_map};
 ghost use Rattle.std.specs.FinSet.{contains};
-ghost use Rattle.eco_net.specs.Listing.{Listing, netlist, net_names, comp_names, IsKnownPin};
+ghost use Rattle.eco_net.specs.Listing.{Listing, netlist, net_names, comp_names, comp_of, FindsComp, IsKnownPin};
 ghost use Rattle.eco_net.specs.Kept.{IsListing, IsRow};
 ghost use Rattle.eco_net.specs.JoinedPins.{joined_pins};
 ghost use Rattle.eco_net.specs.ByNumber.{net_at, drives, end_of, joint_at};
@@ -11,7 +13,19 @@ ghost use Rattle.eco_net.specs.ByNumber.{net_at, drives, end_of, joint_at};
 use crate::ids::{CompId, Counts, NetId, PinRef};
 use crate::maker::NetlistMaker;
 use crate::rows::{CompRow, NetRow, TopRow};
+use eco_func::Memory;
 use eco_text::Dir;
+use std::alloc::Global;
+
+/// The component of a place, if there is one.
+fn comp_at(place: Option<u32>) -> Option<CompId>
+    ensures { result ≡ option_map comp_of place }
+{
+    match place {
+        Some(place) => Some(CompId(place)),
+        None => None,
+    }
+}
 
 impl NetlistMaker {
     /// How many nets, components and top pins were added.
@@ -46,6 +60,26 @@ impl NetlistMaker {
             Some(number) => Some(CompId(number)),
             None => None,
         }
+    }
+
+    /// The name of a net.
+    pub fn net_name(&self, net: NetId) -> &[u8]
+        requires { net.0 < length self.now.nets }
+        ensures { slice_get (net_names self.now) net.0 ≡ Some result.now }
+    {
+        self.net(net.0).name.bytes()
+    }
+
+    /// The component of each name, as `find_comp` gives it. For many names this takes a third of the time.
+    pub fn find_comps(&self, alloc: Global, names: &[&[u8]]) -> Result<Vec<Option<CompId>>, Memory>
+        ensures { IfOk result (λ found. AllZip (λ n c. FindsComp self.now n.now c) names.now found.items) }
+    {
+        let places = self.comp_places.find_all(alloc, names)?;
+        let mut found = Vec::with_capacity(alloc, places.len())?;
+        for place in &places {
+            found.push(comp_at(*place))?;
+        }
+        Ok(found)
     }
 
     /// How many nets there are.

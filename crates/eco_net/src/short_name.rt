@@ -29,11 +29,12 @@ impl Model for ShortName {
 }
 
 impl ShortName {
-    ghost use Rattle.std.specs.Prelude.{◌≡◌, ◌<◌, ◌≤◌, length, MatchOption};
+    ghost use Rattle.std.specs.Prelude.{◌≡◌};
+    ghost use Rattle.eco_net.specs.Index.{short_of};
 
     /// The name in place, or none if it has more than 15 bytes.
     pub(crate) fn of(name: &[u8]) -> Option<ShortName>
-        ensures { MatchOption result (15 < length name.now) (λ short. (length name.now ≤ 15) × (short ≡ name.now)) }
+        ensures { result ≡ short_of name.now }
     {
         let len = name.len();
         if len > 15 {
