@@ -2,6 +2,7 @@
 use Rattle.std.proofs.Common.{false, None}
 use Rattle.eco_text.specs.declared.geometry.Dir.TheVariants.{Input}
 use Rattle.eco_text.specs.declared.word.Word.{Word}
+use Rattle.eco_full.specs.declared.stated_joint.StatedJoint.{StatedJoint}
 use Rattle.eco_def.specs.declared.design.Comp.{Comp}
 use Rattle.eco_def.specs.declared.design.Joint.{Joint}
 use Rattle.eco_def.specs.declared.design.TopPin.{TopPin}
@@ -21,3 +22,6 @@ no_pin = record { name = no_word; net = no_word; dir = Input; supply = false }
 
 abbrev pub no_joined : JoinedPin
 no_joined = record { comp = record { 0 = 0 }; pin = 0; net = record { 0 = 0 } }
+
+abbrev pub no_stated : StatedJoint
+no_stated = record { comp = record { start = 0; end = 0; quoted = false }; pin = record { start = 0; end = 0; quoted = false }; net = record { 0 = 0 } }

@@ -19,9 +19,9 @@ use Rattle.eco_net.specs.declared.ids.CompId.{CompId}
 use Rattle.eco_net.specs.declared.rows.CompRow.{CompRow}
 use Rattle.eco_net.specs.declared.rows.NetRow.{NetRow}
 use Rattle.eco_net.specs.Netlist.{Name, Role, Component, Netlist, IsPin, role_of}
-use Rattle.eco_net.specs.Listing.{Listing, netlist, component, comp_names, net_names, net_name, pins, HasPin, FindsPin, AreApart}
+use Rattle.eco_net.specs.Listing.{Listing, netlist, component, comp_names, net_names, net_name, pins, HasPin, FindsPin, FindsComp, AreApart}
 use Rattle.eco_net.specs.Kept.{IsListing}
-use Rattle.eco_net.proofs.Basics.{Has, contains_from_has, has_from_contains, has_map, has_append_left, has_append_right, has_found, same_Some, not_None}
+use Rattle.eco_net.proofs.Basics.{Has, contains_from_has, has_from_contains, has_map, has_found, same_Some, not_None}
 use Rattle.eco_net.proofs.Effects.{comp_is, role_is, pin_row}
 use Rattle.eco_net.proofs.Places.{row_of_name}
 use Rattle.eco_full.specs.declared.fault.DesignFault.{DesignFault}
@@ -162,10 +162,17 @@ supply_numbered powers L is text comps comp pin i numbers e =
 
 -- ---- one joint
 
-pub found_joint : (powered : Name → Name → Bool) (L : Listing) (j : NamedJoint) (o : Option (CompId × ℕ)) → is_no_component j.comp ≡ false → FindsPinOf L j.comp j.pin o → (is_some o ≡ true) ⊎ (powered j.comp j.pin ≡ true) → FindsJoint powered L j o
-found_joint powered L j None named f (inl e) = absurd (true≢false (sym e))
-found_joint powered L j None named f (inr e) = inr (f, e)
-found_joint powered L j (Some k) named f e = (named, f)
+-- a component that was looked up
+pub looked_up : (L : Listing) (name : Name) (o p : Option CompId) → o ≡ p → FindsComp L name o → FindsComp L name p
+looked_up L name o p e h = subst (FindsComp L name) e h
+
+pub no_comp_pin : (L : Listing) (comp pin : Name) → get (netlist L).comps comp ≡ None → FindsPinOf L comp pin None
+no_comp_pin L comp pin none x e p = absurd (not_None (sym e ∙ none))
+
+pub found_joint : (powered : Name → Name → Bool) (L : Listing) (comp pin : Name) (o : Option (CompId × ℕ)) → FindsPinOf L comp pin o → (is_some o ≡ true) ⊎ (powered comp pin ≡ true) → FindsJoint powered L comp pin o
+found_joint powered L comp pin None f (inl e) = absurd (true≢false (sym e))
+found_joint powered L comp pin None f (inr e) = (f, e)
+found_joint powered L comp pin (Some k) f e = f
 
 pub unknown_joint : (powered : Name → Name → Bool) (L : Listing) (comp pin : Name) (o : Option (CompId × ℕ)) → FindsPinOf L comp pin o → is_some o ≡ false → powered comp pin ≡ false → IsUnknownJoint powered (netlist L) comp pin
 unknown_joint powered L comp pin None f e g = record { no_pin = f; no_supply = g }
@@ -181,33 +188,27 @@ alone : (j k : NewJoint) → Contains (j ∷ []) k → j ≡ k
 alone j k h = ⊎_elim (λ e. e) (λ z. absurd z) (has_from_contains (j ∷ []) k h)
 
 module _ (powered : Name → Name → Bool) where
-  pub joint_unknown : (N : Netlist) (n : Name) (j : NamedJoint) → is_no_component j.comp ≡ false → IsUnknownJoint powered N j.comp j.pin → PinFault powered N (pins_among n (j ∷ [])) UnknownPin
-  joint_unknown N n j e none = (on_net n j, subst (λ js. Contains js (on_net n j)) (sym (one_pin n j e)) (contains_from_has (on_net n j ∷ []) (on_net n j) (inl refl)), none)
+  pub joint_unknown : (N : Netlist) (j : NewJoint) → IsUnknownJoint powered N j.comp j.pin → PinFault powered N (j ∷ []) UnknownPin
+  joint_unknown N j none = (j, contains_from_has (j ∷ []) j (inl refl), none)
 
   pub no_pins_found : (L : Listing) (old : List JoinedPin) → FindsPins powered L [] old old
   no_pins_found L old = record { joints = sym (append-nil (joints_of L old)); known = λ k. k; each = λ j h. absurd (has_from_contains {A = NewJoint} [] j h) }
 
-  pub joint_passed : (L : Listing) (n : Name) (j : NamedJoint) (old : List JoinedPin) → FindsJoint powered L j None → FindsPins powered L (pins_among n (j ∷ [])) old old
-  joint_passed L n j old (inl e) = subst (λ js. FindsPins powered L js old old) (sym (no_pin n j e)) (no_pins_found L old)
-  joint_passed L n j old (inr s) = go (is_no_component j.comp) refl
+  pub joint_passed : (L : Listing) (j : NewJoint) (old : List JoinedPin) → FindsJoint powered L j.comp j.pin None → FindsPins powered L (j ∷ []) old old
+  joint_passed L j old s = record {
+    joints = sym (append-nil (joints_of L old)) ∙ ap (λ js. joints_of L old ++ js) (sym passed);
+    known = λ k. k;
+    each = λ k h. inr (subst (λ (q : NewJoint). powered q.comp q.pin ≡ true) (alone j k h) s.1);
+  }
     where
-      passed : known_pins (netlist L) (on_net n j ∷ []) ≡ []
-      passed = ap (λ b. cond b (on_net n j ∷ []) []) (pin_unknown (netlist L) j.comp j.pin s.0)
+      passed : known_pins (netlist L) (j ∷ []) ≡ []
+      passed = ap (λ b. cond b (j ∷ []) []) (pin_unknown (netlist L) j.comp j.pin s.0)
 
-      go : (b : Bool) → is_no_component j.comp ≡ b → FindsPins powered L (pins_among n (j ∷ [])) old old
-      go true e = subst (λ js. FindsPins powered L js old old) (sym (no_pin n j e)) (no_pins_found L old)
-      go false e = subst (λ js. FindsPins powered L js old old) (sym (one_pin n j e)) (record {
-        joints = sym (append-nil (joints_of L old)) ∙ ap (λ js. joints_of L old ++ js) (sym passed);
-        known = λ k. k;
-        each = λ k h. inr (subst (λ (q : NewJoint). powered q.comp q.pin ≡ true) (alone (on_net n j) k h) s.1);
-      })
-
-  pub joint_found : (L : Listing) → IsListing L → (n : Name) (j : NamedJoint) (old : List JoinedPin) (p : JoinedPin) → is_no_component j.comp ≡ false → joint_of L p ≡ on_net n j → IsKnownJoint L p →
-      FindsPins powered L (pins_among n (j ∷ [])) old (old ++ p ∷ [])
-  joint_found L is n j old p e s known = record {
-    joints = map-append (joint_of L) old (p ∷ []) ∙ ap (λ k. joints_of L old ++ k ∷ []) s ∙ ap (λ ks. joints_of L old ++ ks) (sym (ap (known_pins (netlist L)) (one_pin n j e) ∙ kept));
+  pub joint_found : (L : Listing) → IsListing L → (j : NewJoint) (old : List JoinedPin) (p : JoinedPin) → joint_of L p ≡ j → IsKnownJoint L p → FindsPins powered L (j ∷ []) old (old ++ p ∷ [])
+  joint_found L is j old p s known = record {
+    joints = map-append (joint_of L) old (p ∷ []) ∙ ap (λ k. joints_of L old ++ k ∷ []) s ∙ ap (λ ks. joints_of L old ++ ks) (sym kept);
     known = λ each q h. ⊎_elim (λ i. each q (contains_from_has old q i)) (λ i. ⊎_elim (λ f. subst (IsKnownJoint L) f known) (λ z. absurd z) i) (has_of_append old (p ∷ []) q (has_from_contains (old ++ p ∷ []) q h));
-    each = λ k h. inl (subst (λ (q : NewJoint). has_pin (get (netlist L).comps q.comp) q.pin ≡ true) (alone (on_net n j) k (subst (λ js. Contains js k) (one_pin n j e) h)) has);
+    each = λ k h. inl (subst (λ (q : NewJoint). has_pin (get (netlist L).comps q.comp) q.pin ≡ true) (alone j k h) has);
   }
     where
       has : has_pin (get (netlist L).comps j.comp) j.pin ≡ true
@@ -215,13 +216,10 @@ module _ (powered : Name → Name → Bool) where
           let x = known_joint L is p known in
           subst (λ (q : NewJoint). has_pin (get (netlist L).comps q.comp) q.pin ≡ true) s (pin_is_known (netlist L) (joint_of L p).comp (joint_of L p).pin x.0 x.1 x.2)
 
-      kept : known_pins (netlist L) (on_net n j ∷ []) ≡ on_net n j ∷ []
-      kept = ap (λ b. cond b (on_net n j ∷ []) []) has
+      kept : known_pins (netlist L) (j ∷ []) ≡ j ∷ []
+      kept = ap (λ b. cond b (j ∷ []) []) has
 
   -- ---- many joints
-
-  pub pins_nil : (L : Listing) (n : Name) (old : List JoinedPin) → FindsPins powered L (pins_among n []) old old
-  pins_nil L n old = no_pins_found L old
 
   pub pins_more : (L : Listing) (xs ys : List NewJoint) (a b c : List JoinedPin) → FindsPins powered L xs a b → FindsPins powered L ys b c → FindsPins powered L (xs ++ ys) a c
   pins_more L xs ys a b c f g = record {
@@ -244,12 +242,6 @@ pub pins_among-append : (n : Name) (xs ys : List NamedJoint) → pins_among n (x
 pins_among-append n xs ys =
     ap (map (on_net n)) (filter-append (λ (j : NamedJoint). not (is_no_component j.comp)) xs ys)
     ∙ map-append (on_net n) (filter (λ j. not (is_no_component j.comp)) xs) (filter (λ j. not (is_no_component j.comp)) ys)
-
--- the pin of one of the joints is among those of all
-pub one_among : {A : Type 0} (n : Name) (f : A → NamedJoint) (js : List A) (i : ℕ) (d : A) → i < length js → (k : NewJoint) → Has (pins_among n (f (get_or js i d) ∷ [])) k → Has (pins_among n (map f js)) k
-one_among n f [] i d h k g = absurd (omega (arith, h))
-one_among n f (j ∷ js) zero d h k g = subst (λ ks. Has ks k) (sym (pins_among-append n (f j ∷ []) (map f js))) (has_append_left (pins_among n (f j ∷ [])) (pins_among n (map f js)) k g)
-one_among n f (j ∷ js) (suc i) d h k g = subst (λ ks. Has ks k) (sym (pins_among-append n (f j ∷ []) (map f js))) (has_append_right (pins_among n (f j ∷ [])) (pins_among n (map f js)) k (one_among n f js i d (omega (arith, h)) k g))
 
 -- ---- statements
 

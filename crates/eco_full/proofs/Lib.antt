@@ -20,6 +20,7 @@ pub mod ReadOnce
 pub mod Limited
 pub mod Stating
 pub mod FindingPins
+pub mod Waiting
 pub mod JoiningPins
 pub mod Assembling
 pub mod Whole

@@ -11,10 +11,11 @@ use Rattle.std.specs.HashMap.{HashMap, get_by}
 use Rattle.std.specs.declared.hash.FoldHasher.{FoldHasher}
 use Rattle.std.specs.declared.hash.BuildHasherDefault.{BuildHasherDefault}
 use Rattle.eco_def.specs.declared.design.Design.{Design}
-use Rattle.eco_def.specs.Named.{NamedComp, NamedPin, NamedJoint, NamedNet}
-use Rattle.eco_issued.specs.Changes.{NewJoint, is_no_component}
+use Rattle.eco_def.specs.Named.{NamedComp, NamedPin, NamedNet}
+use Rattle.eco_issued.specs.Changes.{NewJoint}
 use Rattle.eco_net.specs.declared.kind.Kind.{Kind as Given}
 use Rattle.eco_net.specs.declared.rows.CompRow.{CompRow}
+use Rattle.eco_net.specs.declared.rows.NetRow.{NetRow}
 use Rattle.eco_net.specs.declared.ids.CompId.{CompId}
 use Rattle.eco_net.specs.declared.ids.PinRef.TheVariants.{Pin}
 use Rattle.eco_net.specs.Netlist.{Name, Component, Top, Netlist, CompPin, IsPin, role_of}
@@ -24,9 +25,10 @@ use Rattle.eco_net.specs.Listing.{Listing, netlist, net_name, comp_names, pins, 
 use Rattle.eco_full.specs.declared.fault.DesignFault.{DesignFault}
 use Rattle.eco_full.specs.declared.fault.DesignFault.TheVariants.{UnknownMacro, UnknownPin, PinNetDiffers, SupplyDiffers, Memory}
 use Rattle.eco_full.specs.declared.joined_pin.JoinedPin.{JoinedPin}
+use Rattle.eco_full.specs.declared.stated_joint.StatedJoint.{StatedJoint}
 use Rattle.eco_full.specs.Netlists.{Kinds, Powers, supply_by, top_of}
 use Rattle.eco_full.specs.Joints.{IsRewired, OneNetEach}
-use Rattle.eco_full.specs.Stated.{named_net, named_pin, named_comps, named_pins}
+use Rattle.eco_full.specs.Stated.{word_bytes, named_net, named_pin, named_comps, named_pins}
 
 -- ---- supplies
 
@@ -128,10 +130,10 @@ FindsPinOf L comp pin (Some f) = IsKnownPin L (Pin f.0 f.1) × (comp_name (slice
 abbrev pub has_supply_pin : Powers → List NamedComp → Name → Name → Bool
 has_supply_pin powers cs comp pin = list_any (λ c. bytes_eq c.name comp && powers c.model pin) cs
 
--- The pin that a joint names, or none: PIN or * stands in the component's place, or the pin is a supply pin.
-abbrev pub FindsJoint : (Name → Name → Bool) → Listing → NamedJoint → Option (CompId × ℕ) → Type 0
-FindsJoint powered L j None = (is_no_component j.comp ≡ true) ⊎ (FindsPinOf L j.comp j.pin None × (powered j.comp j.pin ≡ true))
-FindsJoint powered L j (Some f) = (is_no_component j.comp ≡ false) × FindsPinOf L j.comp j.pin (Some f)
+-- the pin that a joint names, or none, and then it is a supply pin
+abbrev pub FindsJoint : (Name → Name → Bool) → Listing → Name → Name → Option (CompId × ℕ) → Type 0
+FindsJoint powered L comp pin None = FindsPinOf L comp pin None × (powered comp pin ≡ true)
+FindsJoint powered L comp pin (Some f) = FindsPinOf L comp pin (Some f)
 
 -- a joint names no pin of a component, and no supply pin
 pub record IsUnknownJoint (powered : Name → Name → Bool) (N : Netlist) (comp pin : Name) : Type 0 where
@@ -152,6 +154,20 @@ pub record FindsPins (powered : Name → Name → Bool) (L : Listing) (js : List
   pub joints : joints_of L new ≡ joints_of L old ++ known_pins (netlist L) js
   pub known : ((p : JoinedPin) → Contains old p → IsKnownJoint L p) → (p : JoinedPin) → Contains new p → IsKnownJoint L p
   pub each : (j : NewJoint) → Contains js j → (has_pin (get (netlist L).comps j.comp) j.pin ≡ true) ⊎ (powered j.comp j.pin ≡ true)
+
+-- joints by their words, and by the numbers of their nets
+abbrev pub stated_joint : List ℕ → List NetRow → StatedJoint → NewJoint
+stated_joint text nets s = record { comp = word_bytes text s.comp; pin = word_bytes text s.pin; net = net_name nets s.net.0 }
+
+abbrev pub stated_joints : List ℕ → List NetRow → List StatedJoint → List NewJoint
+stated_joints text nets ss = map (stated_joint text nets) ss
+
+-- pins of some of these joints are found, and the others, which are the last ones, wait
+pub record FindsOrWaits (powered : Name → Name → Bool) (text : List ℕ) (L : Listing) (js : List NewJoint) (found : List JoinedPin) (waiting : List StatedJoint) : Type 0 where
+  pub done : List NewJoint
+  pub finds : FindsPins powered L done [] found
+  pub all : js ≡ done ++ stated_joints text L.nets waiting
+  pub nets : (s : StatedJoint) → Contains waiting s → s.net.0 < length L.nets
 
 -- a joint names no pin of a component, nor a supply pin, or memory ran out
 abbrev pub PinFault : (Name → Name → Bool) → Netlist → List NewJoint → DesignFault → Type 0

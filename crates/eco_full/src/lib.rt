@@ -11,6 +11,7 @@ mod listed_nets;
 mod listed_tops;
 mod listing;
 mod macros;
+mod stated_joint;
 mod supplies;
 mod words;
 

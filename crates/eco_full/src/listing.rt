@@ -32,8 +32,9 @@ fn list_nets(
     requires { IsReadingOf text.now design.now }
     ensures { IfOk result (NetsListed (value_of supplies.now) text.now design.now) }
 {
-    let mut maker = NetlistMaker::new(alloc)?;
-    add_stated_nets(&mut maker, alloc, text, design.nets.as_slice(), supplies)?;
+    let nets = design.nets.as_slice();
+    let mut maker = NetlistMaker::with_room(alloc, nets.len(), design.comps.as_slice().len())?;
+    add_stated_nets(&mut maker, alloc, text, nets, supplies)?;
     add_pin_nets(&mut maker, alloc, text, design.pins.as_slice(), supplies)?;
     Ok(maker)
 }

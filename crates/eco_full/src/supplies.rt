@@ -83,10 +83,12 @@ pub fn first_supplies<'a>(
 fn keeps_supply(text: &[u8], net: &NetStatement, supplies: &Supplies<'_>) -> bool
     ensures { result ≡ keeps_value (value_of supplies.now) (named_net text.now net.now) }
 {
-    let first = supply_of(supplies, bytes_at(text, net.name));
-    match (supply_by(text, net), first) {
-        (Some(value), Some(first)) => value == first,
-        _ => true,
+    let Some(value) = supply_by(text, net) else {
+        return true;
+    };
+    match supply_of(supplies, bytes_at(text, net.name)) {
+        Some(first) => value == first,
+        None => true,
     }
 }
 

@@ -1,8 +1,17 @@
-use Rattle.eco_full.proofs.FindingPins.{none_found, some_found}
+use Rattle.std.proofs.Common.{None, Some, slice_get, subst}
+use Rattle.eco_net.specs.Listing.{FindsPin}
+use Rattle.eco_full.proofs.FindingPins.{looked_up, no_comp_pin, none_found, some_found}
 use Rattle.eco_full.proofs.found_pins.find_pin.Goals as goal
 
+pub returns-in-None : goal.returns-in-None
+returns-in-None c = no_comp_pin c.args.maker.now _ _ (looked_up c.args.maker.now _ _ None c.in-None.is c.requires)
+
 pub returns-in-None-find_pin : goal.returns-in-None-find_pin
-returns-in-None-find_pin c = none_found c.args.maker.now c.counts-listing.ensures.listing c.in-Some.comp.0 c.args.comp.now c.args.pin.now c.in-Some.ensures c.in-None-find_pin.ensures
+returns-in-None-find_pin c =
+    none_found c.args.maker.now c.counts-listing.ensures.listing c.in-Some.comp.0 _ _ (looked_up c.args.maker.now _ _ (Some c.in-Some.comp) c.in-Some.is c.requires)
+    (subst (λ q. FindsPin (slice_get c.args.maker.now.comps c.in-Some.comp.0) q None) c.bytes_at.ensures c.in-None-find_pin.ensures)
 
 pub returns-in-Some-find_pin : goal.returns-in-Some-find_pin
-returns-in-Some-find_pin c = some_found c.args.maker.now c.counts-listing.ensures.listing c.in-Some.comp.0 c.args.comp.now c.args.pin.now c.in-Some.ensures c.in-Some-find_pin.pin c.in-Some-find_pin.ensures
+returns-in-Some-find_pin c =
+    some_found c.args.maker.now c.counts-listing.ensures.listing c.in-Some.comp.0 _ _ (looked_up c.args.maker.now _ _ (Some c.in-Some.comp) c.in-Some.is c.requires)
+    c.in-Some-find_pin.pin (subst (λ q. FindsPin (slice_get c.args.maker.now.comps c.in-Some.comp.0) q (Some c.in-Some-find_pin.pin)) c.bytes_at.ensures c.in-Some-find_pin.ensures)

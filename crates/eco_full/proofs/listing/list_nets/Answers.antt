@@ -11,13 +11,13 @@ use Rattle.eco_full.proofs.Whole.{nets_listed}
 use Rattle.eco_full.proofs.listing.list_nets.Goals as goal
 
 stated : (c : goal.After-as_slice-2) → AddsNets (value_of c.args.supplies.now) (map (λ s. (named_net c.args.text.now s).name) c.args.design.now.nets) c.in_ok-maker.maker c.add_stated_nets.new.maker
-stated c = subst (λ (ss : List NetStatement). AddsNets (value_of c.args.supplies.now) (map (λ s. (named_net c.args.text.now s).name) ss) c.in_ok-maker.maker c.add_stated_nets.new.maker) c.as_slice.ensures c.in_ok-add_stated_nets.ensures
+stated c = subst (λ (ss : List NetStatement). AddsNets (value_of c.args.supplies.now) (map (λ s. (named_net c.args.text.now s).name) ss) c.in_ok-maker.maker c.add_stated_nets.new.maker) c.as_slice-nets.ensures c.in_ok-add_stated_nets.ensures
 
 pub add_stated_nets-requires : goal.add_stated_nets-requires
 add_stated_nets-requires c =
     let none = ap (λ (m : Listing). length m.nets) c.in_ok-maker.ensures.rows in
     let few = few_nets c.args.text.now c.args.design.now c.requires.limits in
-    let all = ap length c.as_slice.ensures in
+    let all = ap length c.as_slice-nets.ensures in
     record { few = omega (arith, none, few, all) }
 
 pub add_pin_nets-requires : goal.add_pin_nets-requires
@@ -34,5 +34,5 @@ add_pin_nets-requires c =
 pub returns : goal.returns
 returns c =
     nets_listed (value_of c.args.supplies.now) c.args.text.now c.args.design.now c.in_ok-maker.maker c.add_stated_nets.new.maker c.add_pin_nets.new.maker c.in_ok-maker.ensures.rows c.in_ok-maker.ensures.named
-    (subst (λ (ss : List NetStatement). AddsNets (value_of c.args.supplies.now) (map (λ s. (named_net c.args.text.now s).name) ss) c.in_ok-maker.maker c.add_stated_nets.new.maker) c.as_slice.ensures c.in_ok-add_stated_nets.ensures)
+    (subst (λ (ss : List NetStatement). AddsNets (value_of c.args.supplies.now) (map (λ s. (named_net c.args.text.now s).name) ss) c.in_ok-maker.maker c.add_stated_nets.new.maker) c.as_slice-nets.ensures c.in_ok-add_stated_nets.ensures)
     (subst (λ (ps : List TopPin). AddsNets (value_of c.args.supplies.now) (map (λ p. (named_pin c.args.text.now p).net) ps) c.add_stated_nets.new.maker c.add_pin_nets.new.maker) c.as_slice-2.ensures c.in_ok-add_pin_nets.ensures)
