@@ -3,3 +3,4 @@ pub mod OddPins
 pub mod Firsts
 pub mod MadeKinds
 pub mod ByNames
+pub mod Models

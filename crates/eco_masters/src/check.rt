@@ -6,7 +6,7 @@ ghost use Rattle.eco_masters.specs.Checks.{Checks};
 
 use crate::differing_master::first_differing;
 use crate::fault::MasterFault;
-use crate::unknown::first_unknown;
+use crate::unknown::first_of_unknown_model;
 use crate::used::used_models;
 use eco_def::Design;
 use eco_full::bytes_at;
@@ -27,11 +27,11 @@ pub fn check_masters(
 ) -> Result<(), MasterFault>
     ensures { Checks (named_comps text.now design.now.comps) library.now functions.now result }
 {
-    if let Some(comp) = first_unknown(text, design, library) {
+    let used = used_models(alloc, text, design.comps.as_slice())?;
+    if let Some(comp) = first_of_unknown_model(&used, text, design, library) {
         let comp = Name::of(alloc, bytes_at(text, comp.name))?;
         return Err(MasterFault::UnknownMaster { comp });
     }
-    let used = used_models(alloc, text, design.comps.as_slice())?;
     match first_differing(library, functions, &used) {
         None => Ok(()),
         Some((master, pin)) => Err(MasterFault::FunctionPins {
