@@ -1,5 +1,5 @@
 -- The parts of what opening answers, by the texts as the code looks at them.
-use Rattle.std.proofs.Common.{◌≡◌, ℕ, List, inl, inr, sym, ◌∙◌, subst}
+use Rattle.std.proofs.Common.{◌≡◌, ℕ, List, inl, inr, ap, subst}
 use Rattle.eco_opening.specs.declared.fault.BaseFault.{BaseFault}
 use Rattle.eco_opening.specs.declared.stocked.Stocked.{Stocked}
 use Rattle.eco_opening.specs.Digests.{digest_of}
@@ -29,8 +29,8 @@ module _ (lef def functions desk : List ℕ) (l f d : List ℕ) (lef_is : l ≡ 
   pub stock_first : (t : TextParts) → IsReadFrom l def f d t → AreJoined t → (e : BaseFault) → BlamesStock t e → IsFirstFault lef def functions desk e
   stock_first t read joined e h = inr (t, read_told t read, inr (joined, h))
 
-pub digest_told : (lef def functions desk l m f d : List ℕ) → l ≡ lef → m ≡ def → f ≡ functions → d ≡ desk → (digest : List ℕ) → digest ≡ digest_of l m f d → digest ≡ digest_of lef def functions desk
-digest_told lef def functions desk l m f d e g h k digest is = is ∙ (λ i. digest_of (e i) (g i) (h i) (k i))
+pub digest_told : (lef def functions desk : List ℕ) (t : TextParts) → IsReadFrom lef def functions desk t → digest_of lef t.text functions desk ≡ digest_of lef def functions desk
+digest_told lef def functions desk t read = ap (λ text. digest_of lef text functions desk) read.text_is
 
 pub open_is : (t : TextParts) → AreRead t → AreJoined t → (s : Stocked) → IsStocked t s → (digest : List ℕ) → IsOpen (record { texts = t; listing = s.netlist; stock = s.spares.items; functions = s.functions.items; skipped = s.skipped; census = s.census; depth = s.depth; digest = digest })
 open_is t read joined s stocked digest = record {

@@ -1,6 +1,8 @@
 //! An opened base: its texts, its netlist without the stock, and the stock.
 
 use crate::census::Census;
+use crate::digest::digest_of;
+use crate::sources::Sources;
 use crate::texts::Texts;
 use eco_def::Design;
 use eco_func::{MasterFn, Name};
@@ -18,23 +20,25 @@ pub struct Base {
     skipped: u32,
     census: Census,
     depth: u32,
-    digest: [u8; 32],
+    sources: Sources,
 }
 
 impl Model for Base {
+    ghost use Rattle.eco_opening.specs.Digests.{digest_of as the_digest_of};
     ghost use Rattle.eco_opening.specs.Bases.{BaseParts, IsOpen};
 
     ghost Value = { BaseParts };
 
-    ghost view = { λ b. record { texts = b.texts; listing = b.netlist; stock = b.stock.items; functions = b.functions.items; skipped = b.skipped; census = b.census; depth = b.depth; digest = b.digest } };
+    ghost view = { λ b. record { texts = b.texts; listing = b.netlist; stock = b.stock.items; functions = b.functions.items; skipped = b.skipped; census = b.census; depth = b.depth; digest = the_digest_of b.sources.lef.items b.texts.text b.sources.functions.items b.sources.desk.items } };
 
-    ghost invariant = { λ b. IsOpen (record { texts = b.texts; listing = b.netlist; stock = b.stock.items; functions = b.functions.items; skipped = b.skipped; census = b.census; depth = b.depth; digest = b.digest }) };
+    ghost invariant = { λ b. IsOpen (record { texts = b.texts; listing = b.netlist; stock = b.stock.items; functions = b.functions.items; skipped = b.skipped; census = b.census; depth = b.depth; digest = the_digest_of b.sources.lef.items b.texts.text b.sources.functions.items b.sources.desk.items }) };
 }
 
 impl Base {
     ghost use Rattle.std.specs.Prelude.{◌≡◌, ◌<◌, Some, length, slice_get};
     ghost use Rattle.eco_net.specs.Depth.{IsDepth};
     ghost use Rattle.eco_patch.specs.Bases.{bare};
+    ghost use Rattle.eco_opening.specs.Digests.{digest_of as the_digest_of};
     ghost use Rattle.eco_opening.specs.Bases.{BaseParts, IsOpen, frozen};
     ghost use Rattle.eco_opening.specs.Census.{IsCensusOf};
     ghost use Rattle.eco_opening.specs.Limits.{KeepsLimits};
@@ -49,10 +53,10 @@ impl Base {
         skipped: u32,
         census: Census,
         depth: u32,
-        digest: [u8; 32],
+        sources: Sources,
     ) -> Base
-        requires { IsOpen (record { texts = texts; listing = netlist; stock = stock.items; functions = functions.items; skipped = skipped; census = census; depth = depth; digest = digest }) }
-        ensures { result ≡ record { texts = texts; listing = netlist; stock = stock.items; functions = functions.items; skipped = skipped; census = census; depth = depth; digest = digest } }
+        requires { IsOpen (record { texts = texts; listing = netlist; stock = stock.items; functions = functions.items; skipped = skipped; census = census; depth = depth; digest = the_digest_of sources.lef.items texts.text sources.functions.items sources.desk.items }) }
+        ensures { result ≡ record { texts = texts; listing = netlist; stock = stock.items; functions = functions.items; skipped = skipped; census = census; depth = depth; digest = the_digest_of sources.lef.items texts.text sources.functions.items sources.desk.items } }
     {
         Base {
             texts,
@@ -62,7 +66,7 @@ impl Base {
             skipped,
             census,
             depth,
-            digest,
+            sources,
         }
     }
 
@@ -152,10 +156,17 @@ impl Base {
         if value { desk.high() } else { desk.low() }
     }
 
-    /// SHA-256 over the four texts, each behind its length.
+    /// SHA-256 over the four texts, each behind its length. It is computed at each call, in time of the texts' length, so a
+    /// caller that needs it often keeps it.
     pub fn digest(&self) -> [u8; 32]
         ensures { result ≡ self.now.digest }
     {
-        self.digest
+        let sources = &self.sources;
+        digest_of(
+            &sources.lef,
+            self.texts.text(),
+            &sources.functions,
+            &sources.desk,
+        )
     }
 }

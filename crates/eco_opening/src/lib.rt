@@ -10,6 +10,7 @@ mod joining;
 mod laws;
 mod opening;
 mod reading;
+mod sources;
 mod stocked;
 mod stocking;
 mod texts;

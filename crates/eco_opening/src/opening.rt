@@ -4,10 +4,10 @@ ghost use Rattle.std.specs.Prelude.{◌≤◌, length};
 ghost use Rattle.eco_opening.specs.Opened.{Opens};
 
 use crate::base::Base;
-use crate::digest::digest_of;
 use crate::fault::BaseFault;
 use crate::joining::list_joined;
 use crate::reading::read_texts;
+use crate::sources::Sources;
 use crate::stocking::take_stock;
 use std::alloc::Global;
 
@@ -26,10 +26,14 @@ pub fn open_base(
     requires def { length def.items ≤ 134217728 }
     ensures { Opens lef.items def.items functions.items desk.items result }
 {
-    let digest = digest_of(&lef, &def, &functions, &desk);
     let texts = read_texts(alloc, &lef, def, &functions, &desk)?;
     let maker = list_joined(alloc, &texts)?;
     let stocked = take_stock(alloc, &texts, maker)?;
+    let sources = Sources {
+        lef,
+        functions,
+        desk,
+    };
     Ok(Base::of(
         texts,
         stocked.netlist,
@@ -38,6 +42,6 @@ pub fn open_base(
         stocked.skipped,
         stocked.census,
         stocked.depth,
-        digest,
+        sources,
     ))
 }

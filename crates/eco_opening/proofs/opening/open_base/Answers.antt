@@ -1,5 +1,6 @@
 use Rattle.std.proofs.Common.{sym, subst}
 use Rattle.std.proofs.lemmas.Result.{err_from_is_err_and}
+use Rattle.eco_opening.specs.Digests.{digest_of}
 use Rattle.eco_opening.specs.Texts.{AreRead}
 use Rattle.eco_opening.specs.Bases.{BaseParts}
 use Rattle.eco_opening.specs.Opened.{IsOpened}
@@ -9,17 +10,19 @@ use Rattle.eco_opening.proofs.opening.open_base.Goals as goal
 pub returns-in_err-maker : goal.returns-in_err-maker
 returns-in_err-maker c =
     let p = err_from_is_err_and c.from_residual-in_err-maker.result c.from_residual-in_err-maker.ensures.1 in
-    rw (p.1, p.2) (joints_first c.args.lef.items c.args.def.items c.args.functions.items c.args.desk.items c.deref-5.result.now c.deref-6.result.now c.deref-7.result.now c.deref-5.ensures.value c.deref-6.ensures.value c.deref-7.ensures.value
+    rw (p.1, p.2) (joints_first c.args.lef.items c.args.def.items c.args.functions.items c.args.desk.items c.deref.result.now c.deref-2.result.now c.deref-3.result.now c.deref.ensures.value c.deref-2.ensures.value c.deref-3.ensures.value
     c.in_ok-texts.texts c.in_ok-texts.ensures.texts c.in_err-maker.field-0.0 c.in_err-maker.ensures.fault)
 
 pub returns-in_err-stocked : goal.returns-in_err-stocked
 returns-in_err-stocked c =
     let p = err_from_is_err_and c.from_residual-in_err-stocked.result c.from_residual-in_err-stocked.ensures.1 in
-    rw (p.1, p.2) (stock_first c.args.lef.items c.args.def.items c.args.functions.items c.args.desk.items c.deref-5.result.now c.deref-6.result.now c.deref-7.result.now c.deref-5.ensures.value c.deref-6.ensures.value c.deref-7.ensures.value
+    rw (p.1, p.2) (stock_first c.args.lef.items c.args.def.items c.args.functions.items c.args.desk.items c.deref.result.now c.deref-2.result.now c.deref-3.result.now c.deref.ensures.value c.deref-2.ensures.value c.deref-3.ensures.value
     c.in_ok-texts.texts c.in_ok-texts.ensures.texts c.in_ok-maker.ensures.joined.faultless c.in_err-stocked.field-0.0 c.in_err-stocked.ensures.fault)
 
 pub of-requires : goal.of-requires
-of-requires c = open_is c.in_ok-texts.texts (subst AreRead c.texts.view_is c.texts.invariant) c.in_ok-maker.ensures.joined.faultless c.in_ok-stocked.stocked c.in_ok-stocked.ensures.stocked c.digest_of-digest.result
+of-requires c =
+    let digest = digest_of c.args.lef.items c.in_ok-texts.texts.text c.args.functions.items c.args.desk.items in
+    open_is c.in_ok-texts.texts (subst AreRead c.texts.view_is c.texts.invariant) c.in_ok-maker.ensures.joined.faultless c.in_ok-stocked.stocked c.in_ok-stocked.ensures.stocked digest
 
 pub returns : goal.returns
 returns c =
@@ -27,11 +30,14 @@ returns c =
     let def = c.args.def.items in
     let functions = c.args.functions.items in
     let desk = c.args.desk.items in
+    let t = c.in_ok-texts.texts in
     let s = c.in_ok-stocked.stocked in
-    let b : BaseParts = record { texts = c.in_ok-texts.texts; listing = s.netlist; stock = s.spares.items; functions = s.functions.items; skipped = s.skipped; census = s.census; depth = s.depth; digest = c.digest_of-digest.result } in
+    let digest = digest_of lef t.text functions desk in
+    let b : BaseParts = record { texts = t; listing = s.netlist; stock = s.spares.items; functions = s.functions.items; skipped = s.skipped; census = s.census; depth = s.depth; digest = digest } in
+    let read = read_told lef def functions desk c.deref.result.now c.deref-2.result.now c.deref-3.result.now c.deref.ensures.value c.deref-2.ensures.value c.deref-3.ensures.value t c.in_ok-texts.ensures.texts in
     let opened : IsOpened lef def functions desk b = record {
-      read = read_told lef def functions desk c.deref-5.result.now c.deref-6.result.now c.deref-7.result.now c.deref-5.ensures.value c.deref-6.ensures.value c.deref-7.ensures.value c.in_ok-texts.texts c.in_ok-texts.ensures.texts;
-      digest = digest_told lef def functions desk c.deref.result.now c.deref-2.result.now c.deref-3.result.now c.deref-4.result.now c.deref.ensures.value c.deref-2.ensures.value c.deref-3.ensures.value c.deref-4.ensures.value c.digest_of-digest.result c.digest_of-digest.ensures;
-      base = open_is c.in_ok-texts.texts (subst AreRead c.texts.view_is c.texts.invariant) c.in_ok-maker.ensures.joined.faultless s c.in_ok-stocked.ensures.stocked c.digest_of-digest.result;
+      read = read;
+      digest = digest_told lef def functions desk t read;
+      base = open_is t (subst AreRead c.texts.view_is c.texts.invariant) c.in_ok-maker.ensures.joined.faultless s c.in_ok-stocked.ensures.stocked digest;
     } in
     subst (IsOpened lef def functions desk) (sym c.of.ensures) opened
