@@ -1,6 +1,7 @@
 -- What follows from the answer of a command line.
-use Rattle.std.proofs.Common.{◌<◌, ◌≡◌, ◌⊎◌, ℕ, Bool, true, false, inl, inr, List, [], ◌∷◌, Option, Some, None, Result, Ok, Err, refl, sym, subst, ◌∙◌, arith}
+use Rattle.std.proofs.Common.{◌<◌, ◌≡◌, ◌⊎◌, ℕ, Bool, true, false, inl, inr, ⊎_elim, List, [], ◌∷◌, Option, Some, None, Result, Ok, Err, refl, sym, subst, ◌∙◌, arith}
 use Rattle.std.specs.Io.KnownBytes.{append_known}
+use Rattle.eco_text.specs.Causes.{Rose}
 use Rattle.eco_cli.specs.CommandLine.{Listed, is_bad, is_complete, HasReading, IsFirstBad}
 use Rattle.eco_cli.specs.Commands.{options_of, Asks, IsBadWord}
 use Rattle.eco_cli.specs.Opens.{Told}
@@ -54,6 +55,51 @@ pub refused_answers : {T I O : Type 0} (h : Told T I O) (left : I → Option (Li
     Comes h left taken old new words r → Tells before after f f' (line_of r) (status_of r) answer → answer ≡ 1 → (e : Failure) × IsRefusal e × Comes h left taken old new words (Err e) × (after ≡ append_known before (line_of (Err e)))
 refused_answers h left taken old new words before after f f' r answer comes (inl t) is = refused_ends h left taken old new words before after r (sym t.0 ∙ is) comes t.1
 refused_answers h left taken old new words before after f f' r answer comes (inr t) is = absurd (one_status answer 1 4 is t.0 (omega arith))
+
+words_ends : {T I O : Type 0} (h : Told T I O) (left : I → Option (List ℕ)) (taken : O → Option (List ℕ)) (old new : T) (words : List (List ℕ)) (before after : Option (List ℕ)) (r : Result Done Failure) → status_of r ≡ 2 → Comes h left taken old new words r → after ≡ append_known before (line_of r) →
+    (n : ℕ) × Comes h left taken old new words (Err (failed.Words n)) × (after ≡ append_known before (line_of (Err (failed.Words n))))
+words_ends h left taken old new words before after (Ok d) is comes told = cc
+words_ends h left taken old new words before after (Err (failed.Words n)) is comes told = (n, comes, told)
+words_ends h left taken old new words before after (Err (failed.TooLong option)) is comes told = cc
+words_ends h left taken old new words before after (Err (failed.Refused refusal)) is comes told = cc
+words_ends h left taken old new words before after (Err failed.Read) is comes told = cc
+words_ends h left taken old new words before after (Err failed.Write) is comes told = cc
+words_ends h left taken old new words before after (Err failed.Memory) is comes told = cc
+
+pub words_answers : {T I O : Type 0} (h : Told T I O) (left : I → Option (List ℕ)) (taken : O → Option (List ℕ)) (old new : T) (words : List (List ℕ)) (before after : Option (List ℕ)) (f f' : ℕ) (r : Result Done Failure) (answer : ℕ) →
+    Comes h left taken old new words r → Tells before after f f' (line_of r) (status_of r) answer → answer ≡ 2 → (n : ℕ) × Comes h left taken old new words (Err (failed.Words n)) × (after ≡ append_known before (line_of (Err (failed.Words n))))
+words_answers h left taken old new words before after f f' r answer comes (inl t) is = words_ends h left taken old new words before after r (sym t.0 ∙ is) comes t.1
+words_answers h left taken old new words before after f f' r answer comes (inr t) is = absurd (one_status answer 2 4 is t.0 (omega arith))
+
+-- ---- a failed read or write
+
+read_ends : {T I O : Type 0} (h : Told T I O) (left : I → Option (List ℕ)) (taken : O → Option (List ℕ)) (old new : T) (words : List (List ℕ)) (r : Result Done Failure) → status_of r ≡ 3 → Comes h left taken old new words r → Rose (h.refused old) (h.refused new) ⊎ Rose (h.read_faults old) (h.read_faults new)
+read_ends h left taken old new words (Ok d) is comes = cc
+read_ends h left taken old new words (Err (failed.Words n)) is comes = cc
+read_ends h left taken old new words (Err (failed.TooLong option)) is comes = cc
+read_ends h left taken old new words (Err (failed.Refused refusal)) is comes = cc
+read_ends h left taken old new words (Err failed.Read) is comes = ⊎_elim (λ s. s.3) (λ w. inl w.8) comes.3.1
+read_ends h left taken old new words (Err failed.Write) is comes = cc
+read_ends h left taken old new words (Err failed.Memory) is comes = cc
+
+pub read_answers : {T I O : Type 0} (h : Told T I O) (left : I → Option (List ℕ)) (taken : O → Option (List ℕ)) (old new : T) (words : List (List ℕ)) (before after : Option (List ℕ)) (f f' : ℕ) (r : Result Done Failure) (answer : ℕ) →
+    Comes h left taken old new words r → Tells before after f f' (line_of r) (status_of r) answer → answer ≡ 3 → Rose (h.refused old) (h.refused new) ⊎ Rose (h.read_faults old) (h.read_faults new)
+read_answers h left taken old new words before after f f' r answer comes (inl t) is = read_ends h left taken old new words r (sym t.0 ∙ is) comes
+read_answers h left taken old new words before after f f' r answer comes (inr t) is = absurd (one_status answer 3 4 is t.0 (omega arith))
+
+write_ends : {T I O : Type 0} (h : Told T I O) (left : I → Option (List ℕ)) (taken : O → Option (List ℕ)) (old new : T) (words : List (List ℕ)) (r : Result Done Failure) → status_of r ≡ 4 → Comes h left taken old new words r → Rose (h.write_faults old) (h.write_faults new)
+write_ends h left taken old new words (Ok d) is comes = cc
+write_ends h left taken old new words (Err (failed.Words n)) is comes = cc
+write_ends h left taken old new words (Err (failed.TooLong option)) is comes = cc
+write_ends h left taken old new words (Err (failed.Refused refusal)) is comes = cc
+write_ends h left taken old new words (Err failed.Read) is comes = cc
+write_ends h left taken old new words (Err failed.Write) is comes = comes.3.9
+write_ends h left taken old new words (Err failed.Memory) is comes = cc
+
+pub write_answers : {T I O : Type 0} (h : Told T I O) (left : I → Option (List ℕ)) (taken : O → Option (List ℕ)) (old new : T) (words : List (List ℕ)) (before after : Option (List ℕ)) (f f' : ℕ) (r : Result Done Failure) (answer : ℕ) →
+    Comes h left taken old new words r → Tells before after f f' (line_of r) (status_of r) answer → answer ≡ 4 → Rose (h.write_faults old) (h.write_faults new) ⊎ Rose f f'
+write_answers h left taken old new words before after f f' r answer comes (inl t) is = inl (write_ends h left taken old new words r (sym t.0 ∙ is) comes)
+write_answers h left taken old new words before after f f' r answer comes (inr t) is = inr t.2
 
 -- ---- bad words
 
