@@ -1,6 +1,6 @@
 //! Designs and their netlists.
 
-use crate::said::{depth_said, nets_said};
+use crate::said::{agree, depth_said, nets_said};
 use crate::texts::FUNCTIONS;
 use eco_def::read_def;
 use eco_full::{DesignFault, Macros, list_design};
@@ -26,14 +26,17 @@ pub fn listed<M: Macros>(
     }
 }
 
+/// The nets of a netlist and its depth.
+fn netlist_said(alloc: Global, netlist: &Netlist) -> Result<String, Fail> {
+    let nets = nets_said(alloc, netlist)?;
+    let depth = depth_said(alloc, netlist)?;
+    Ok(format!(in alloc; "{nets}{depth}")?)
+}
+
 /// The nets of the netlist and its depth, or the fault.
 fn said(alloc: Global, text: &str, functions: &Functions) -> Result<String, Fail> {
     match listed(alloc, text, functions)? {
-        Ok(netlist) => {
-            let nets = nets_said(alloc, &netlist)?;
-            let depth = depth_said(alloc, &netlist)?;
-            Ok(format!(in alloc; "{nets}{depth}")?)
-        }
+        Ok(netlist) => netlist_said(alloc, &netlist),
         Err(fault) => Ok(format!(in alloc; "{fault}")?),
     }
 }
@@ -130,21 +133,29 @@ const CASES: [[&str; 4]; 13] = [
     ],
 ];
 
-#[test]
-fn designs_and_their_netlists(rt: HostRuntime) -> Result<(), Fail> {
-    let alloc = rt.alloc();
-    let functions = read_functions(alloc, FUNCTIONS.as_bytes())?;
-    assert_eq!(rt; said(alloc, TEXT, &functions)?.as_str(), NETS);
-    for [comps, special, nets, wanted] in CASES {
-        let text = format!(in alloc;
-            "UNITS DISTANCE MICRONS 1 ; COMPONENTS 1 ; {comps} END COMPONENTS \
-             SPECIALNETS 1 ; {special} END SPECIALNETS NETS 1 ; {nets} END NETS END DESIGN"
-        )?;
-        assert_eq!(rt;
-            said(alloc, text.as_str(), &functions)?.as_str(),
-            wanted,
-            "{text}"
-        );
+/// The text of a design of a case.
+fn text_of(alloc: Global, case: &[&str; 4]) -> Result<String, Fail> {
+    let [comps, special, nets, _] = case;
+    Ok(format!(in alloc;
+        "UNITS DISTANCE MICRONS 1 ; COMPONENTS 1 ; {comps} END COMPONENTS \
+         SPECIALNETS 1 ; {special} END SPECIALNETS NETS 1 ; {nets} END NETS END DESIGN"
+    )?)
+}
+
+fn check(alloc: Global, functions: &Functions, text: &str, wanted: &str) -> Result<(), Fail> {
+    agree(said(alloc, text, functions)?.as_str(), wanted, text)
+}
+
+fn check_cases(alloc: Global, functions: &Functions) -> Result<(), Fail> {
+    check(alloc, functions, TEXT, NETS)?;
+    for case in &CASES {
+        check(alloc, functions, text_of(alloc, case)?.as_str(), case[3])?;
     }
     Ok(())
+}
+
+#[test]
+fn designs_and_their_netlists(rt: HostRuntime) -> Result<(), Fail> {
+    let functions = read_functions(rt.alloc(), FUNCTIONS.as_bytes())?;
+    check_cases(rt.alloc(), &functions)
 }

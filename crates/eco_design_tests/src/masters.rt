@@ -1,5 +1,6 @@
 //! Whether masters fit a design and a functions file.
 
+use crate::said::agree;
 use crate::texts::FUNCTIONS;
 use eco_def::read_def;
 use eco_func::{Functions, read_functions};
@@ -108,20 +109,38 @@ fn said(alloc: Global, lef: &str, def: &str, functions: &Functions) -> Result<St
     }
 }
 
-#[test]
-fn the_first_fault_of_the_masters(rt: HostRuntime) -> Result<(), Fail> {
-    let alloc = rt.alloc();
-    let functions = read_functions(alloc, FUNCTIONS.as_bytes())?;
-    for (comps, nand2, inv, wanted) in CASES {
-        let lef = format!(in alloc;
-            "MACRO NAND2 {nand2} {SUPPLIES} END NAND2 MACRO INV {SUPPLIES} {inv} END INV \
-             MACRO DFF PIN D DIRECTION INPUT ; END D PIN Q DIRECTION INOUT ; END Q {SUPPLIES} END DFF"
-        )?;
-        let def = format!(in alloc;
-            "UNITS DISTANCE MICRONS 1 ; COMPONENTS 1 ; {comps} END COMPONENTS NETS 0 ; END NETS END DESIGN"
-        )?;
-        let found = said(alloc, lef.as_str(), def.as_str(), &functions)?;
-        assert_eq!(rt; found.as_str(), wanted, "{comps} {nand2} {inv}");
+/// The library of a case.
+fn lef_of(alloc: Global, nand2: &str, inv: &str) -> Result<String, Fail> {
+    Ok(format!(in alloc;
+        "MACRO NAND2 {nand2} {SUPPLIES} END NAND2 MACRO INV {SUPPLIES} {inv} END INV \
+         MACRO DFF PIN D DIRECTION INPUT ; END D PIN Q DIRECTION INOUT ; END Q {SUPPLIES} END DFF"
+    )?)
+}
+
+/// The design of a case.
+fn def_of(alloc: Global, comps: &str) -> Result<String, Fail> {
+    Ok(format!(in alloc;
+        "UNITS DISTANCE MICRONS 1 ; COMPONENTS 1 ; {comps} END COMPONENTS NETS 0 ; END NETS END DESIGN"
+    )?)
+}
+
+fn check(alloc: Global, functions: &Functions, case: &Case) -> Result<(), Fail> {
+    let (comps, nand2, inv, wanted) = case;
+    let lef = lef_of(alloc, nand2, inv)?;
+    let def = def_of(alloc, comps)?;
+    let found = said(alloc, lef.as_str(), def.as_str(), functions)?;
+    agree(found.as_str(), wanted, lef.as_str())
+}
+
+fn check_cases(alloc: Global, functions: &Functions) -> Result<(), Fail> {
+    for case in &CASES {
+        check(alloc, functions, case)?;
     }
     Ok(())
+}
+
+#[test]
+fn the_first_fault_of_the_masters(rt: HostRuntime) -> Result<(), Fail> {
+    let functions = read_functions(rt.alloc(), FUNCTIONS.as_bytes())?;
+    check_cases(rt.alloc(), &functions)
 }

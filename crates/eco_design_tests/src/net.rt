@@ -6,9 +6,9 @@ ghost use Rattle.eco_net.specs.declared.ids.PinRef.{PinRef};
 ghost use Rattle.eco_net.specs.Listing.{IsKnownPin};
 
 use crate::full::listed;
-use crate::said::{depth_said, keys_said, nets_said, observables_said, values_said};
+use crate::said::{agree, depth_said, keys_said, nets_said, observables_said, values_said};
 use crate::texts::FUNCTIONS;
-use eco_func::read_functions;
+use eco_func::{Functions, read_functions};
 use eco_lef::{Library, read_lef};
 use eco_masters::MasterTable;
 use eco_net::{CompId, NetId, Netlist, NetlistMaker, PinRef};
@@ -63,17 +63,39 @@ fn library(alloc: Global, text: &str) -> Result<Library, Fail>
     Ok(read_lef(alloc, text.as_bytes())?)
 }
 
-/// The netlist of these parts.
-fn unmarked(alloc: Global, parts: Parts) -> Result<Netlist, Fail> {
+/// The text of a design of these parts.
+fn text_of(alloc: Global, parts: &Parts) -> Result<String, Fail> {
     let Parts(comps, tops, nets) = parts;
-    let text = format!(in alloc;
+    Ok(format!(in alloc;
         "UNITS DISTANCE MICRONS 1 ; COMPONENTS 1 ; {comps} END COMPONENTS PINS 1 ; {tops} END PINS SPECIALNETS 2 ; \
          - VDD + USE POWER ; - VSS + USE GROUND ; END SPECIALNETS NETS 1 ; {nets} END NETS END DESIGN"
-    )?;
+    )?)
+}
+
+/// The netlist of a design of these masters.
+fn listed_by(
+    alloc: Global,
+    text: &str,
+    library: &Library,
+    functions: &Functions,
+) -> Result<Netlist, Fail>
+    requires { HaveDistinctPins library.now }
+{
+    let table = MasterTable::of(alloc, library, functions)?;
+    Ok(listed(alloc, text, &table)??)
+}
+
+/// The netlist of a design of the cells.
+fn listed_of_cells(alloc: Global, text: &str) -> Result<Netlist, Fail> {
     let functions = read_functions(alloc, FUNCTIONS.as_bytes())?;
     let library = library(alloc, CELLS)?;
-    let table = MasterTable::of(alloc, &library, &functions)?;
-    Ok(listed(alloc, text.as_str(), &table)??)
+    listed_by(alloc, text, &library, &functions)
+}
+
+/// The netlist of these parts.
+fn unmarked(alloc: Global, parts: &Parts) -> Result<Netlist, Fail> {
+    let text = text_of(alloc, parts)?;
+    listed_of_cells(alloc, text.as_str())
 }
 
 /// The net of a name.
@@ -86,14 +108,19 @@ fn find_net(maker: &NetlistMaker, name: &str) -> Result<NetId, Fail>
     }
 }
 
-/// The netlist of these parts with VDD and VSS as tie nets, where `SP_1` stands for a component elsewhere.
-fn netlist_of(alloc: Global, parts: Parts) -> Result<Netlist, Fail> {
-    let mut maker = unmarked(alloc, parts)?.into_maker();
-    let high = find_net(&maker, "VDD")?;
+/// Marks VDD and VSS as tie nets, and `SP_1` as a component elsewhere.
+fn mark(alloc: Global, maker: &mut NetlistMaker) -> Result<(), Fail> {
+    let high = find_net(maker, "VDD")?;
     maker.mark_tie(high);
-    let low = find_net(&maker, "VSS")?;
+    let low = find_net(maker, "VSS")?;
     maker.mark_tie(low);
-    maker.reserve_name(alloc, b"SP_1")?;
+    Ok(maker.reserve_name(alloc, b"SP_1")?)
+}
+
+/// The netlist of these parts with VDD and VSS as tie nets, where `SP_1` stands for a component elsewhere.
+fn netlist_of(alloc: Global, parts: &Parts) -> Result<Netlist, Fail> {
+    let mut maker = unmarked(alloc, parts)?.into_maker();
+    mark(alloc, &mut maker)?;
     Ok(maker.finish(alloc)?)
 }
 
@@ -175,18 +202,24 @@ fn wanted_nets(alloc: Global, change: &PinMove) -> Result<String, Fail> {
     Ok(wanted)
 }
 
-#[test]
-fn nets_with_their_drivers_and_sinks(rt: HostRuntime) -> Result<(), Fail> {
-    let alloc = rt.alloc();
-    let netlist = netlist_of(alloc, sample())?;
-    assert_eq!(rt; nets_said(alloc, &netlist)?.as_str(), NETS);
+fn check_move(alloc: Global, netlist: &Netlist, change: &PinMove) -> Result<(), Fail> {
+    let wanted = wanted_nets(alloc, change)?;
+    let nets = moved(alloc, netlist, change)?;
+    agree(nets.as_str(), wanted.as_str(), change.1)
+}
+
+fn check_nets(alloc: Global, netlist: &Netlist) -> Result<(), Fail> {
+    agree(nets_said(alloc, netlist)?.as_str(), NETS, "sample")?;
     for change in &MOVED {
-        assert_eq!(rt;
-            moved(alloc, &netlist, change)?,
-            wanted_nets(alloc, change)?
-        );
+        check_move(alloc, netlist, change)?;
     }
     Ok(())
+}
+
+#[test]
+fn nets_with_their_drivers_and_sinks(rt: HostRuntime) -> Result<(), Fail> {
+    let netlist = netlist_of(rt.alloc(), &sample())?;
+    check_nets(rt.alloc(), &netlist)
 }
 
 /// What is said of the sample.
@@ -264,14 +297,16 @@ fn said(alloc: Global, netlist: &Netlist) -> Result<String, Fail> {
     Ok(format!(in alloc; "{counts} {depth} keys{keys} observables{observables}")?)
 }
 
+fn check_said(alloc: Global, parts: &Parts, wanted: &str) -> Result<(), Fail> {
+    let netlist = netlist_of(alloc, parts)?;
+    agree(said(alloc, &netlist)?.as_str(), wanted, parts.2)
+}
+
 #[test]
 fn counts_depths_cut_keys_and_observables(rt: HostRuntime) -> Result<(), Fail> {
-    let alloc = rt.alloc();
-    let netlist = netlist_of(alloc, sample())?;
-    assert_eq!(rt; said(alloc, &netlist)?.as_str(), SAMPLE_SAID);
-    for (parts, wanted) in SAID {
-        let netlist = netlist_of(alloc, parts)?;
-        assert_eq!(rt; said(alloc, &netlist)?.as_str(), wanted);
+    check_said(rt.alloc(), &sample(), SAMPLE_SAID)?;
+    for (parts, wanted) in &SAID {
+        check_said(rt.alloc(), parts, wanted)?;
     }
     Ok(())
 }
@@ -300,16 +335,30 @@ const INVERTED_VALUES: [(&str, &str); 2] = [
     ("1", " VDD=1 VSS=0 a=1 n1=0 n2=1 m1=0"),
 ];
 
-#[test]
-fn the_values_with_an_inverter_on_a_nand(rt: HostRuntime) -> Result<(), Fail> {
-    let alloc = rt.alloc();
-    let functions = read_functions(alloc, FUNCTIONS.as_bytes())?;
-    let netlist = listed(alloc, INVERTED, &functions)??;
-    assert_eq!(rt; keys_said(alloc, &netlist)?.as_str(), " a");
-    for (bits, wanted) in INVERTED_VALUES {
-        assert_eq!(rt; values_said(alloc, &netlist, bits)?.as_str(), wanted);
+/// The cut keys, and the values of the nets for some of their bits.
+fn check_values(
+    alloc: Global,
+    netlist: &Netlist,
+    keys: &str,
+    values: &[(&str, &str)],
+) -> Result<(), Fail> {
+    agree(keys_said(alloc, netlist)?.as_str(), keys, "keys")?;
+    for (bits, wanted) in values {
+        agree(values_said(alloc, netlist, bits)?.as_str(), wanted, bits)?;
     }
     Ok(())
+}
+
+/// The netlist of a design whose masters have functions.
+fn listed_of_functions(alloc: Global, text: &str) -> Result<Netlist, Fail> {
+    let functions = read_functions(alloc, FUNCTIONS.as_bytes())?;
+    Ok(listed(alloc, text, &functions)??)
+}
+
+#[test]
+fn the_values_with_an_inverter_on_a_nand(rt: HostRuntime) -> Result<(), Fail> {
+    let netlist = listed_of_functions(rt.alloc(), INVERTED)?;
+    check_values(rt.alloc(), &netlist, " a", &INVERTED_VALUES)
 }
 
 /// The bits of a, r1/Q and n5, and the values of the nets.
@@ -322,17 +371,8 @@ const VALUES: [(&str, &str); 4] = [
 
 #[test]
 fn gates_supplies_and_free_nets(rt: HostRuntime) -> Result<(), Fail> {
-    let alloc = rt.alloc();
-    let netlist = netlist_of(alloc, valued())?;
-    assert_eq!(rt; keys_said(alloc, &netlist)?.as_str(), " a r1/Q n5");
-    for (bits, wanted) in VALUES {
-        assert_eq!(rt;
-            values_said(alloc, &netlist, bits)?.as_str(),
-            wanted,
-            "{bits}"
-        );
-    }
-    Ok(())
+    let netlist = netlist_of(rt.alloc(), &valued())?;
+    check_values(rt.alloc(), &netlist, " a r1/Q n5", &VALUES)
 }
 
 /// The marks of the components that are taken out of the sample, and the counts of what is left: of its pins on nets two of
@@ -374,18 +414,44 @@ fn is_found(rest: &Netlist) -> bool {
         && !rest.is_reserved(b"u1")
 }
 
+fn check_counts(alloc: Global, netlist: &Netlist, wanted: &str) -> Result<(), Fail> {
+    agree(counts_said(alloc, netlist)?.as_str(), wanted, "counts")
+}
+
+fn check_names(alloc: Global, rest: &Netlist) -> Result<(), Fail> {
+    agree(nets_said(alloc, rest)?.as_str(), NETS_LEFT, "nets")?;
+    if !is_found(rest) {
+        return Err("what is left is not found".into());
+    }
+    Ok(())
+}
+
+fn check_counts_left(
+    alloc: Global,
+    netlist: &Netlist,
+    marks: &[bool],
+    wanted: &str,
+) -> Result<(), Fail> {
+    let rest = left(alloc, netlist, marks)?;
+    check_counts(alloc, &rest, wanted)
+}
+
+fn check_names_left(alloc: Global, netlist: &Netlist) -> Result<(), Fail> {
+    let rest = left(alloc, netlist, &[false, true, true, false, false])?;
+    check_names(alloc, &rest)
+}
+
+fn check_left(alloc: Global, netlist: &Netlist) -> Result<(), Fail> {
+    for (marks, wanted) in &LEFT {
+        check_counts_left(alloc, netlist, marks, wanted)?;
+    }
+    check_names_left(alloc, netlist)
+}
+
 #[test]
 fn components_are_taken_out(rt: HostRuntime) -> Result<(), Fail> {
-    let alloc = rt.alloc();
-    let netlist = netlist_of(alloc, sample())?;
-    for (marks, wanted) in &LEFT {
-        let rest = left(alloc, &netlist, marks)?;
-        assert_eq!(rt; counts_said(alloc, &rest)?.as_str(), *wanted);
-    }
-    let rest = left(alloc, &netlist, &[false, true, true, false, false])?;
-    assert_eq!(rt; nets_said(alloc, &rest)?.as_str(), NETS_LEFT);
-    assert!(rt; is_found(&rest));
-    Ok(())
+    let netlist = netlist_of(rt.alloc(), &sample())?;
+    check_left(rt.alloc(), &netlist)
 }
 
 /// Pins of the sample, each with its direction, its name and its net.
@@ -453,16 +519,15 @@ fn pin_said(alloc: Global, netlist: &Netlist, comp: &str, pin: &str) -> Result<S
     Ok(format!(in alloc; "{dir} {name}{net}")?)
 }
 
-#[test]
-fn pins_by_name(rt: HostRuntime) -> Result<(), Fail> {
-    let alloc = rt.alloc();
-    let netlist = netlist_of(alloc, sample())?;
-    for (comp, pin, wanted) in PINS {
-        assert_eq!(rt;
-            pin_said(alloc, &netlist, comp, pin)?.as_str(),
-            wanted,
-            "{comp}/{pin}"
-        );
+fn check_pins(alloc: Global, netlist: &Netlist) -> Result<(), Fail> {
+    for (comp, pin, wanted) in &PINS {
+        agree(pin_said(alloc, netlist, comp, pin)?.as_str(), wanted, pin)?;
     }
     Ok(())
+}
+
+#[test]
+fn pins_by_name(rt: HostRuntime) -> Result<(), Fail> {
+    let netlist = netlist_of(rt.alloc(), &sample())?;
+    check_pins(rt.alloc(), &netlist)
 }

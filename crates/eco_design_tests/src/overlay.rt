@@ -6,6 +6,7 @@ ghost use Rattle.eco_def.specs.Sections.{IsReadingOf};
 ghost use Rattle.eco_overlay.specs.Overlays.{IsMadeFor};
 ghost use Rattle.eco_overlay.specs.PinMoves.{named_joint, same_pin, are_pins_apart, ArePinsApart};
 
+use crate::said::agree;
 use crate::texts::DEF;
 use eco_def::{Design, read_def};
 use eco_func::Name;
@@ -82,22 +83,28 @@ const MOVES: [(&str, [&str; 4], &str); 10] = [
     (DEF, ["r1", "D", "n2", "zz"], "UnknownNet"),
 ];
 
+/// The small base with the register's pin D on n1.
+fn wanted_text(alloc: Global) -> Result<String, Fail> {
+    let routed = DEF.replace(
+        alloc,
+        "- n1 ( u1 Y ) ( u2 A ) + ROUTED M1 ( 1000 1000 ) ( 3000 * ) ;",
+        "- n1 ( u1 Y ) ( u2 A ) ( r1 D ) ;",
+    )?;
+    Ok(routed.replace(alloc, "- n2 ( u2 Y ) ( r1 D ) ;", "- n2 ( u2 Y ) ;")?)
+}
+
+fn check_move(alloc: Global, text: &str, words: [&str; 4], wanted: &str) -> Result<(), Fail> {
+    agree(moved(alloc, text, words)?.as_str(), wanted, text)
+}
+
 #[test]
 fn one_pin_moved_and_all_else_as_it_was(rt: HostRuntime) -> Result<(), Fail> {
-    let alloc = rt.alloc();
-    for (text, words, wanted) in MOVES {
-        assert_eq!(rt; moved(alloc, text, words)?.as_str(), wanted);
+    for (text, words, wanted) in &MOVES {
+        check_move(rt.alloc(), text, *words, wanted)?;
     }
-    let wanted = DEF
-        .replace(
-            alloc,
-            "- n1 ( u1 Y ) ( u2 A ) + ROUTED M1 ( 1000 1000 ) ( 3000 * ) ;",
-            "- n1 ( u1 Y ) ( u2 A ) ( r1 D ) ;",
-        )?
-        .replace(alloc, "- n2 ( u2 Y ) ( r1 D ) ;", "- n2 ( u2 Y ) ;")?;
-    assert_eq!(rt; moved(alloc, DEF, ["r1", "D", "n2", "n1"])?, wanted);
+    let wanted = wanted_text(rt.alloc())?;
     assert_eq!(rt; wanted.len() + 37, DEF.len());
-    Ok(())
+    check_move(rt.alloc(), DEF, ["r1", "D", "n2", "n1"], wanted.as_str())
 }
 
 fn is_of_pin(joint: &NewJoint, other: &NewJoint) -> bool
@@ -217,11 +224,15 @@ const ISSUES: [Issue; 4] = [
     ),
 ];
 
+fn check_issue(alloc: Global, issue: &Issue) -> Result<(), Fail> {
+    let Issue(text, joints, nets, wanted) = issue;
+    agree(issued(alloc, text, joints, nets)?.as_str(), wanted, text)
+}
+
 #[test]
 fn pins_and_new_nets_in_both_sections(rt: HostRuntime) -> Result<(), Fail> {
-    let alloc = rt.alloc();
-    for Issue(text, joints, nets, wanted) in &ISSUES {
-        assert_eq!(rt; issued(alloc, text, joints, nets)?.as_str(), *wanted);
+    for issue in &ISSUES {
+        check_issue(rt.alloc(), issue)?;
     }
     Ok(())
 }

@@ -7,6 +7,15 @@ use eco_net::{CutKey, CutValues, Kind, LoopFault, NetId, Netlist, PinRef, Values
 use std::alloc::Global;
 use std::test::Fail;
 
+/// Fails where a text isn't the wanted one, and says of which case it is.
+pub fn agree(got: &str, wanted: &str, case: &str) -> Result<(), Fail> {
+    if got == wanted {
+        Ok(())
+    } else {
+        Err(Fail::new(format_args!("{got:?} for {wanted:?} of {case:?}")))
+    }
+}
+
 /// The pin of a number.
 fn kind_pin(kind: &Kind, pin: usize) -> Option<&Name> {
     match kind {
