@@ -16,7 +16,6 @@ use Rattle.eco_def.specs.Named.{NamedComp, NamedJoint, joint_names}
 use Rattle.eco_def.specs.View.{joint_in}
 use Rattle.eco_issued.specs.Changes.{NewJoint, is_no_component}
 use Rattle.eco_net.specs.declared.ids.CompId.{CompId}
-use Rattle.eco_net.specs.declared.ids.FoundComp.{FoundComp}
 use Rattle.eco_net.specs.declared.rows.CompRow.{CompRow}
 use Rattle.eco_net.specs.declared.rows.NetRow.{NetRow}
 use Rattle.eco_net.specs.Netlist.{Name, Role, Component, Netlist, IsPin, role_of}
@@ -164,7 +163,7 @@ supply_numbered powers L is text comps comp pin i numbers e =
 -- ---- one joint
 
 -- a component that was looked up
-pub looked_up : (L : Listing) (name : Name) (o p : Option FoundComp) → o ≡ p → FindsComp L name o → FindsComp L name p
+pub looked_up : (L : Listing) (name : Name) (o p : Option CompId) → o ≡ p → FindsComp L name o → FindsComp L name p
 looked_up L name o p e h = subst (FindsComp L name) e h
 
 pub no_comp_pin : (L : Listing) (comp pin : Name) → get (netlist L).comps comp ≡ None → FindsPinOf L comp pin None

@@ -21,7 +21,7 @@ use crate::stated_joint::StatedJoint;
 use crate::words::{bytes_at, is_no_component};
 use eco_def::{Comp, Joint, Joints, NetStatement};
 use eco_func::Memory;
-use eco_net::{CompId, FoundComp, NetId, NetlistMaker};
+use eco_net::{CompId, NetId, NetlistMaker};
 use std::alloc::Global;
 
 /// So many joints wait for their components to be looked up together.
@@ -32,7 +32,7 @@ fn find_pin(
     maker: &NetlistMaker,
     text: &[u8],
     joint: &StatedJoint,
-    comp: Option<FoundComp>,
+    comp: Option<CompId>,
 ) -> Option<(CompId, u32)>
     requires { FindsComp maker.now (word_bytes text.now joint.now.comp) comp }
     ensures { FindsPinOf maker.now (word_bytes text.now joint.now.comp) (word_bytes text.now joint.now.pin) result }
@@ -40,9 +40,9 @@ fn find_pin(
     let _listing = maker.counts();
     match comp {
         None => None,
-        Some(comp) => match maker.find_pin_of(comp, bytes_at(text, joint.pin)) {
+        Some(comp) => match maker.find_pin(comp, bytes_at(text, joint.pin)) {
             None => None,
-            Some(pin) => Some((comp.id, pin)),
+            Some(pin) => Some((comp, pin)),
         },
     }
 }
@@ -54,7 +54,7 @@ fn is_supply_pin<M: Macros>(
     comps: &[Comp],
     macros: &M,
     joint: &StatedJoint,
-    comp: Option<FoundComp>,
+    comp: Option<CompId>,
 ) -> bool
     requires numbers { comp_names maker.now ≡ map (λ c. c.name) (named_comps text.now comps.now) }
     requires comp { FindsComp maker.now (word_bytes text.now joint.now.comp) comp }
@@ -63,8 +63,8 @@ fn is_supply_pin<M: Macros>(
     let _listing = maker.counts();
     match comp {
         None => false,
-        Some(comp) => {
-            let model = bytes_at(text, comps[comp.id.0 as usize].model);
+        Some(number) => {
+            let model = bytes_at(text, comps[number.0 as usize].model);
             macros.is_supply(model, bytes_at(text, joint.pin))
         }
     }
@@ -77,7 +77,7 @@ fn find_joint<M: Macros>(
     comps: &[Comp],
     macros: &M,
     joint: &StatedJoint,
-    comp: Option<FoundComp>,
+    comp: Option<CompId>,
 ) -> Result<Option<(CompId, u32)>, DesignFault>
     requires numbers { comp_names maker.now ≡ map (λ c. c.name) (named_comps text.now comps.now) }
     requires comp { FindsComp maker.now (word_bytes text.now joint.now.comp) comp }
@@ -100,7 +100,7 @@ fn add_joint<M: Macros>(
     comps: &[Comp],
     macros: &M,
     joint: &StatedJoint,
-    comp: Option<FoundComp>,
+    comp: Option<CompId>,
 ) -> Result<(), DesignFault>
     requires numbers { comp_names maker.now ≡ map (λ c. c.name) (named_comps text.now comps.now) }
     requires comp { FindsComp maker.now (word_bytes text.now joint.now.comp) comp }
@@ -124,7 +124,7 @@ fn add_joints<M: Macros>(
     comps: &[Comp],
     macros: &M,
     joints: &[StatedJoint],
-    found: &[Option<FoundComp>],
+    found: &[Option<CompId>],
 ) -> Result<(), DesignFault>
     requires numbers { comp_names maker.now ≡ map (λ c. c.name) (named_comps text.now comps.now) }
     requires found { AllZip (λ j c. FindsComp maker.now (word_bytes text.now j.comp) c) joints.now found.now }

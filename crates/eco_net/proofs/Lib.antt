@@ -43,7 +43,6 @@ pub mod DepthNames
 pub mod Removed
 pub mod JoinedNames
 pub mod Filling
-pub mod FoundComps
 pub mod Noted
 mod Examples
 mod Loops

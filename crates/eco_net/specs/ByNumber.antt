@@ -4,12 +4,11 @@ use Rattle.std.specs.List.{filter, range_with_len}
 use Rattle.std.specs.Option.{option_map, option_and_then}
 use Rattle.eco_net.specs.declared.rows.CompRow.{CompRow}
 use Rattle.eco_net.specs.declared.rows.TopRow.{TopRow}
-use Rattle.eco_net.specs.declared.ids.FoundComp.{FoundComp}
 use Rattle.eco_net.specs.declared.ids.PinRef.{PinRef}
 use Rattle.eco_net.specs.declared.ids.PinRef.TheVariants.{Top, Pin}
 use Rattle.eco_net.specs.Netlist.{Role}
 use Rattle.eco_net.specs.Drivers.{is_driving, drives_inward}
-use Rattle.eco_net.specs.Listing.{Listing, pins, comp_of}
+use Rattle.eco_net.specs.Listing.{Listing, pins}
 
 abbrev pub joint_at : Option CompRow → ℕ → Option ℕ
 joint_at None k = None
@@ -63,10 +62,6 @@ pins_at (Some r) = length (pins r)
 -- how many pins a component has
 abbrev pub pin_count : Listing → ℕ → ℕ
 pin_count L c = pins_at (slice_get L.comps c)
-
--- a component of a number, with how many pins it has
-abbrev pub found_of : Listing → ℕ → FoundComp
-found_of L c = record { id = comp_of c; pins = pin_count L c }
 
 abbrev pub all_pins : Listing → List PinRef
 all_pins L = tops_to (length L.tops) ++ comp_pins 0 L.comps

@@ -14,7 +14,6 @@ use Rattle.eco_net.specs.declared.rows.NetRow.{NetRow}
 use Rattle.eco_net.specs.declared.rows.CompRow.{CompRow}
 use Rattle.eco_net.specs.declared.rows.TopRow.{TopRow}
 use Rattle.eco_net.specs.declared.ids.CompId.{CompId}
-use Rattle.eco_net.specs.declared.ids.FoundComp.{FoundComp}
 use Rattle.eco_net.specs.declared.ids.PinRef.{PinRef}
 use Rattle.eco_net.specs.declared.ids.PinRef.TheVariants.{Top as TopNumber, Pin as PinNumber}
 use Rattle.eco_net.specs.Netlist.{Name, name_cmp, Kind, Gate, Boxed, Netlist, Component, Top, Pin, TopPin, CompPin, Role, Reads, Computes, Outside, pins_of}
@@ -139,13 +138,9 @@ with_tie (r ∷ rows) (suc n) = r ∷ with_tie rows n
 abbrev pub comp_of : ℕ → CompId
 comp_of c = record { 0 = c }
 
--- a component that was looked up is there, and has so many pins
-abbrev pub IsFound : Listing → FoundComp → Type 0
-IsFound L f = option_map (λ r. length (pins r)) (slice_get L.comps f.id.0) ≡ Some f.pins
-
--- the component of a name, or none
-abbrev pub FindsComp : Listing → Name → Option FoundComp → Type 0
-FindsComp L name found = MatchOption found (get (netlist L).comps name ≡ None) (λ f. (slice_get (comp_names L) f.id.0 ≡ Some name) × IsFound L f)
+-- the component of a name: its number, or none
+abbrev pub FindsComp : Listing → Name → Option CompId → Type 0
+FindsComp L name found = MatchOption found (get (netlist L).comps name ≡ None) (λ c. slice_get (comp_names L) c.0 ≡ Some name)
 
 -- where a name stands in a list
 abbrev pub FindsName : List Name → Name → Option ℕ → Type 0

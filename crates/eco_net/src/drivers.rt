@@ -2,7 +2,7 @@
 
 ghost use Rattle.std.specs.Prelude.{◌≡◌, ◌<◌, ◌+◌, ◌++◌, [], ◌∷◌, List, length, IfOk};
 ghost use Rattle.eco_net.specs.declared.ids.PinRef.{PinRef};
-ghost use Rattle.eco_net.specs.ByNumber.{sole, drivers, all_pins};
+ghost use Rattle.eco_net.specs.ByNumber.{sole, drivers};
 ghost use Rattle.eco_net.specs.Driving.{driving_of, each_driving, pins_before};
 
 use crate::ids::{CompId, PinRef, TopId};
@@ -70,28 +70,21 @@ fn note_comp(listed: &NetlistMaker, comp: u32, driving: &mut [Driving])
     }
 }
 
-/// What is noted of each net. One walk over the rows in their order: to go to the row of each pin of each net would wait
-/// for memory at every pin.
-fn noted_of(alloc: Global, listed: &NetlistMaker) -> Result<Vec<Driving>, Memory>
-    ensures { IfOk result (λ driving. driving.items ≡ each_driving listed.now (all_pins listed.now)) }
-{
-    let mut driving = vec![in alloc; Driving::None; listed.net_count() as usize]?;
-    note_tops(listed, &mut driving);
-    for comp in 0..listed.comp_count() {
-        note_comp(listed, comp, &mut driving);
-    }
-    Ok(driving)
-}
-
-/// The one driving pin of each net.
+/// The one driving pin of each net. One walk over the rows in their order: to go to the row of each pin of each net
+/// would wait for memory at every pin.
 pub(crate) fn drivers_of(
     alloc: Global,
     listed: &NetlistMaker,
 ) -> Result<Vec<Option<PinRef>>, Memory>
     ensures { IfOk result (λ found. found.items ≡ drivers listed.now) }
 {
-    let driving = noted_of(alloc, listed)?;
-    let mut found = Vec::with_capacity(alloc, driving.len())?;
+    let nets = listed.net_count() as usize;
+    let mut driving = vec![in alloc; Driving::None; nets]?;
+    note_tops(listed, &mut driving);
+    for comp in 0..listed.comp_count() {
+        note_comp(listed, comp, &mut driving);
+    }
+    let mut found = Vec::with_capacity(alloc, nets)?;
     for noted in &driving {
         found.push(noted.sole())?;
     }

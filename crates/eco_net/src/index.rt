@@ -66,9 +66,7 @@ impl NameIndex {
         })
     }
 
-    /// The place of a name, which is at hand in place if it is short. Where it is a call of its own, fewer look-ups wait at
-    /// the same time.
-    #[inline(always)]
+    /// The place of a name, which is at hand in place if it is short.
     fn find_as(&self, short: Option<ShortName>, name: &[u8]) -> Option<u32>
         requires { short ≡ short_of name.now }
         ensures { result ≡ map.get self.now name.now }

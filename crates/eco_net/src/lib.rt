@@ -32,7 +32,7 @@ mod walk;
 
 pub use crate::cut::{CutKey, CutValues};
 pub use crate::evaluation::Values;
-pub use crate::ids::{CompId, Counts, FoundComp, NetId, PinRef, TopId};
+pub use crate::ids::{CompId, Counts, NetId, PinRef, TopId};
 pub use crate::kind::{BoxPin, BoxPins, Kind};
 pub use crate::laws::{
     closed_walk_shows, each_choice, each_net, one_cut_key, one_depth, one_valuation, ranks_show,

@@ -1,87 +1,20 @@
-//! Components and pins of a netlist that is being listed.
+//! Pins of a netlist that is being listed.
 
-ghost use Rattle.std.specs.Prelude.{◌≡◌, ◌<◌, Some, length, slice_get, IfOk, IfSome};
+ghost use Rattle.std.specs.Prelude.{◌≡◌, ◌<◌, length, slice_get, IfSome};
 ghost use Rattle.std.specs.Option.{option_map};
-ghost use Rattle.eco_net.specs.declared.ids.PinRef.{PinRef};
-ghost use Rattle.eco_net.specs.ByNumber.{role_at};
-ghost use Rattle.eco_net.specs.Drivers.{net_of, dir_of_role};
-ghost use Rattle.eco_net.specs.Listing.{netlist, comp_names, net_name, pin_named, IsFound, IsKnownPin, FindsPin};
-ghost use Rattle.eco_net.specs.Pins.{DriverIs};
+ghost use Rattle.eco_net.specs.Drivers.{net_of};
+ghost use Rattle.eco_net.specs.Listing.{netlist, net_name, pin_named, IsKnownPin, FindsPin};
 
-use crate::drivers::drivers_of;
-use crate::ids::{CompId, FoundComp, NetId, PinRef};
-use crate::kind::Kind;
+use crate::ids::{CompId, NetId, PinRef};
 use crate::maker::NetlistMaker;
-use eco_func::Memory;
-use eco_text::{Dir, Point};
-use std::alloc::Global;
 
 impl NetlistMaker {
-    /// The name of a component.
-    pub fn comp_name(&self, comp: CompId) -> &[u8]
-        requires { comp.0 < length self.now.comps }
-        ensures { slice_get (comp_names self.now) comp.0 ≡ Some result.now }
-    {
-        self.comp(comp.0).name.bytes()
-    }
-
-    /// What a component is.
-    pub fn kind(&self, comp: CompId) -> &Kind
-        requires { comp.0 < length self.now.comps }
-        ensures { option_map (λ r. r.kind) (slice_get self.now.comps comp.0) ≡ Some result.now }
-    {
-        &self.comp(comp.0).kind
-    }
-
-    /// Where a component is placed, in database units.
-    pub fn place_of(&self, comp: CompId) -> Option<Point>
-        requires { comp.0 < length self.now.comps }
-        ensures { option_map (λ r. r.place) (slice_get self.now.comps comp.0) ≡ Some result }
-    {
-        self.comp(comp.0).place
-    }
-
-    /// The direction of a component's pin: a gate's inputs are inputs, its outputs are outputs.
-    pub fn pin_dir(&self, comp: CompId, pin: u32) -> Dir
-        requires { IsKnownPin self.now (PinRef.Pin comp pin) }
-        ensures { option_map dir_of_role (role_at (slice_get self.now.comps comp.0) pin) ≡ Some result }
-    {
-        self.comp(comp.0).kind.pin_use(pin as usize).dir()
-    }
-
-    /// The value of a supply, or none where the net is no supply.
-    pub fn supply(&self, net: NetId) -> Option<bool>
-        requires { net.0 < length self.now.nets }
-        ensures { option_map (λ r. r.supply) (slice_get self.now.nets net.0) ≡ Some result }
-    {
-        self.net(net.0).supply
-    }
-
-    /// The one driving pin of a net, as `Netlist::driver` gives it. It walks over all components: a finished netlist
-    /// has it at hand.
-    pub fn driver(&self, alloc: Global, net: NetId) -> Result<Option<PinRef>, Memory>
-        requires { net.0 < length self.now.nets }
-        ensures { IfOk result (DriverIs self.now (net_name self.now.nets net.0)) }
-    {
-        let _listing = self.net_count();
-        let drivers = drivers_of(alloc, self)?;
-        Ok(drivers[net.0 as usize])
-    }
-
     /// The number of a component's pin of a name.
     pub fn find_pin(&self, comp: CompId, name: &[u8]) -> Option<u32>
         requires { comp.0 < length self.now.comps }
         ensures { FindsPin (slice_get self.now.comps comp.0) name.now result }
     {
         self.comp(comp.0).kind.find_pin(name)
-    }
-
-    /// The same of a component that was looked up.
-    pub fn find_pin_of(&self, comp: FoundComp, name: &[u8]) -> Option<u32>
-        requires { IsFound self.now comp }
-        ensures { FindsPin (slice_get self.now.comps comp.id.0) name.now result }
-    {
-        self.comp(comp.id.0).kind.find_among(comp.pins, name)
     }
 
     /// The net that a pin was put on.

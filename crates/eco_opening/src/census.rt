@@ -4,7 +4,7 @@ ghost use Rattle.std.specs.Prelude.{◌≡◌, ◌<◌, Some, length, slice_get,
 ghost use Rattle.std.specs.Option.{option_map};
 ghost use Rattle.eco_opening.specs.Census.{is_gate_row, IsCensusOfRows};
 
-use eco_net::{CompId, Kind, NetlistMaker};
+use eco_net::{CompId, Kind, Netlist};
 use eco_stock::Stock;
 
 /// How many there are of each in a base.
@@ -26,7 +26,7 @@ pub struct Census {
 }
 
 /// Whether a component is a gate.
-fn is_gate(net: &NetlistMaker, comp: CompId) -> bool
+fn is_gate(net: &Netlist, comp: CompId) -> bool
     requires { comp.0 < length net.now.comps }
     ensures { option_map is_gate_row (slice_get net.now.comps comp.0) ≡ Some result }
 {
@@ -37,7 +37,7 @@ fn is_gate(net: &NetlistMaker, comp: CompId) -> bool
 }
 
 /// How many components are gates.
-fn count_gates(net: &NetlistMaker) -> u32
+fn count_gates(net: &Netlist) -> u32
     ensures { result ≡ count_by is_gate_row net.now.comps }
 {
     let mut gates = 0;
@@ -48,7 +48,7 @@ fn count_gates(net: &NetlistMaker) -> u32
 }
 
 /// How much there is in the netlist of all components, whose stock this is.
-pub fn census_of(net: &NetlistMaker, stock: &Stock) -> Census
+pub fn census_of(net: &Netlist, stock: &Stock) -> Census
     ensures { IsCensusOfRows net.now stock.now result }
 {
     let counts = net.counts();

@@ -36,17 +36,15 @@ fn tie_fault(alloc: Global, net: &Name) -> BaseFault
 }
 
 /// Refuses a tie net that hasn't its value, that of `tie_high` first.
-fn check_ties(alloc: Global, net: &NetlistMaker, desk: &DeskFile) -> Result<(), BaseFault>
+fn check_ties(alloc: Global, net: &Netlist, desk: &DeskFile) -> Result<(), BaseFault>
     ensures high { OnOk result (IsTieNet desk.now.prefixes (netlist net.now) desk.now.high true) }
     ensures low { OnOk result (IsTieNet desk.now.prefixes (netlist net.now) desk.now.low false) }
     ensures fault { IfErr result (BlamesTies desk.now (netlist net.now)) }
 {
-    let high = is_tied(alloc, net, desk, true)?;
-    if !high {
+    if !is_tied(net, desk, true) {
         return Err(tie_fault(alloc, desk.high()));
     }
-    let low = is_tied(alloc, net, desk, false)?;
-    if !low {
+    if !is_tied(net, desk, false) {
         return Err(tie_fault(alloc, desk.low()));
     }
     Ok(())
@@ -78,7 +76,7 @@ fn depth_of(alloc: Global, net: &Netlist) -> Result<u32, BaseFault>
 }
 
 /// What a gate computes.
-fn function_of(net: &NetlistMaker, comp: CompId) -> Result<MasterFn, Memory>
+fn function_of(net: &Netlist, comp: CompId) -> Result<MasterFn, Memory>
     requires { IsGateRow (slice_get net.now.comps comp.0) }
     ensures { IfOk result (λ f. option_map (λ r. r.kind) (slice_get net.now.comps comp.0) ≡ Some (Gate f)) }
 {
@@ -89,11 +87,7 @@ fn function_of(net: &NetlistMaker, comp: CompId) -> Result<MasterFn, Memory>
 }
 
 /// What each spare computes.
-fn functions_of(
-    alloc: Global,
-    net: &NetlistMaker,
-    spares: &[Spare],
-) -> Result<Vec<MasterFn>, Memory>
+fn functions_of(alloc: Global, net: &Netlist, spares: &[Spare]) -> Result<Vec<MasterFn>, Memory>
     requires { All (λ s. IsGateRow (slice_get net.now.comps s.comp)) spares.now }
     ensures { IfOk result (λ fs. map (λ f. Some (Gate f)) fs.items ≡ map (λ s. option_map (λ r. r.kind) (slice_get net.now.comps s.comp)) spares.now) }
 {
@@ -107,12 +101,13 @@ fn functions_of(
 /// Takes the stock out of the netlist of all components.
 ///
 /// Refuses a tie net that isn't one, too much stock, and a loop in what is left, in this order.
-pub fn take_stock(alloc: Global, texts: &Texts, full: NetlistMaker) -> Result<Stocked, BaseFault>
-    requires { IsJoined texts.now full }
+pub fn take_stock(alloc: Global, texts: &Texts, maker: NetlistMaker) -> Result<Stocked, BaseFault>
+    requires { IsJoined texts.now maker }
     ensures stocked { IfOk result (IsStocked texts.now) }
     ensures fault { IfErr result (BlamesStock texts.now) }
 {
     let desk = texts.desk();
+    let full = maker.finish(alloc)?;
     let _counts = full.counts();
     check_ties(alloc, &full, desk)?;
     let stock = find_stock(alloc, &full, desk)?;

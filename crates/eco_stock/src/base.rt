@@ -50,20 +50,20 @@ fn mark_ties(maker: &mut NetlistMaker, desk: &DeskFile)
 /// marked. What is left keeps its order, and is numbered anew.
 pub fn without_stock(
     alloc: Global,
-    full: NetlistMaker,
+    net: Netlist,
     desk: &DeskFile,
     stock: &Stock,
 ) -> Result<Netlist, Memory>
-    requires no_ties { (netlist full).ties ≡ empty }
-    requires no_reserved { (netlist full).reserved ≡ empty }
-    requires high { IsNet (netlist full) desk.now.high }
-    requires low { IsNet (netlist full) desk.now.low }
-    requires marks { stock.now.marks.items ≡ map (is_stock_row desk.now full.nets) full.comps }
-    requires rows { map place_of_spare stock.now.spares.items ≡ map place_in_row (stock_rows desk.now full) }
-    ensures base { IfOk result (λ n. netlist n ≡ without_spares (netlist full) desk.now (spare_names stock.now.spares.items)) }
+    requires no_ties { (netlist net).ties ≡ empty }
+    requires no_reserved { (netlist net).reserved ≡ empty }
+    requires high { IsNet (netlist net) desk.now.high }
+    requires low { IsNet (netlist net) desk.now.low }
+    requires marks { stock.now.marks.items ≡ map (is_stock_row desk.now net.nets) net.comps }
+    requires rows { map place_of_spare stock.now.spares.items ≡ map place_in_row (stock_rows desk.now net) }
+    ensures base { IfOk result (λ n. netlist n ≡ without_spares (netlist net) desk.now (spare_names stock.now.spares.items)) }
     ensures whole { IfOk result (λ n. IsWhole (netlist n)) }
 {
-    let mut maker = full.without(alloc, &stock.marks)?;
+    let mut maker = net.into_maker().without(alloc, &stock.marks)?;
     reserve_all(alloc, &mut maker, &stock.spares)?;
     mark_ties(&mut maker, desk);
     maker.finish(alloc)

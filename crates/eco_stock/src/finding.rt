@@ -7,12 +7,12 @@ ghost use Rattle.eco_stock.specs.Found.{is_stock_row, is_skipped_row, stock_rows
 use crate::idle::{is_skipped, is_stock, stock_place};
 use crate::stock::{Spare, Stock};
 use eco_func::{Memory, Name};
-use eco_net::{CompId, NetlistMaker};
+use eco_net::{CompId, Netlist};
 use eco_spares::DeskFile;
 use std::alloc::Global;
 
 /// Whether a component is stock, for each.
-fn marks_of(alloc: Global, net: &NetlistMaker, desk: &DeskFile) -> Result<Vec<bool>, Memory>
+fn marks_of(alloc: Global, net: &Netlist, desk: &DeskFile) -> Result<Vec<bool>, Memory>
     ensures { IfOk result (λ marks. marks.items ≡ map (is_stock_row desk.now net.now.nets) net.now.comps) }
 {
     let mut marks = Vec::new(alloc);
@@ -23,7 +23,7 @@ fn marks_of(alloc: Global, net: &NetlistMaker, desk: &DeskFile) -> Result<Vec<bo
 }
 
 /// How many components are spare-named and no stock.
-fn count_skipped(net: &NetlistMaker, desk: &DeskFile) -> u32
+fn count_skipped(net: &Netlist, desk: &DeskFile) -> u32
     ensures { result ≡ count_by (is_skipped_row desk.now net.now.nets) net.now.comps }
 {
     let mut skipped = 0;
@@ -36,7 +36,7 @@ fn count_skipped(net: &NetlistMaker, desk: &DeskFile) -> u32
 /// A component behind the spares that are found, if it is stock.
 fn add_stock(
     alloc: Global,
-    net: &NetlistMaker,
+    net: &Netlist,
     desk: &DeskFile,
     comp: u32,
     spares: &mut Vec<Spare>,
@@ -54,7 +54,7 @@ fn add_stock(
 }
 
 /// The spares of the stock.
-fn spares_of(alloc: Global, net: &NetlistMaker, desk: &DeskFile) -> Result<Vec<Spare>, Memory>
+fn spares_of(alloc: Global, net: &Netlist, desk: &DeskFile) -> Result<Vec<Spare>, Memory>
     ensures rows { IfOk result (λ spares. map place_of_spare spares.items ≡ map place_in_row (stock_rows desk.now net.now)) }
     ensures numbers { IfOk result (λ spares. AreNumbered net.now spares.items) }
 {
@@ -67,7 +67,7 @@ fn spares_of(alloc: Global, net: &NetlistMaker, desk: &DeskFile) -> Result<Vec<S
 
 /// The stock: each component that is spare-named, placed and a gate with every input on one of the two tie nets and every
 /// output on no net. Other spare-named components are counted as skipped.
-pub fn find_stock(alloc: Global, net: &NetlistMaker, desk: &DeskFile) -> Result<Stock, Memory>
+pub fn find_stock(alloc: Global, net: &Netlist, desk: &DeskFile) -> Result<Stock, Memory>
     ensures rows { IfOk result (λ stock. map place_of_spare stock.spares.items ≡ map place_in_row (stock_rows desk.now net.now)) }
     ensures numbers { IfOk result (λ stock. AreNumbered net.now stock.spares.items) }
     ensures marks { IfOk result (λ stock. stock.marks.items ≡ map (is_stock_row desk.now net.now.nets) net.now.comps) }

@@ -12,12 +12,12 @@ ghost use Rattle.eco_net.specs.ByNumber.{role_at};
 ghost use Rattle.eco_stock.specs.Stock.{is_on_tie, is_at_rest, is_idle, is_stock};
 ghost use Rattle.eco_stock.specs.Found.{is_stock_row, is_skipped_row};
 
-use eco_net::{CompId, Kind, NetId, NetlistMaker, PinRef};
+use eco_net::{CompId, Kind, NetId, Netlist, PinRef};
 use eco_spares::DeskFile;
 use eco_text::{Dir, Point};
 
 /// Whether this is one of the tie nets, if any.
-fn is_on_tie(net: &NetlistMaker, desk: &DeskFile, pin: PinRef) -> bool
+fn is_on_tie(net: &Netlist, desk: &DeskFile, pin: PinRef) -> bool
     requires { IsKnownPin net.now pin }
     ensures { result ≡ is_on_tie desk.now (net_of (netlist net.now) (pin_named net.now pin)) }
 {
@@ -27,7 +27,7 @@ fn is_on_tie(net: &NetlistMaker, desk: &DeskFile, pin: PinRef) -> bool
     }
 }
 
-fn is_tie(net: &NetlistMaker, desk: &DeskFile, number: NetId) -> bool
+fn is_tie(net: &Netlist, desk: &DeskFile, number: NetId) -> bool
     requires { number.0 < length net.now.nets }
     ensures { result ≡ is_on_tie desk.now (Some (net_name net.now.nets number.0)) }
 {
@@ -36,7 +36,7 @@ fn is_tie(net: &NetlistMaker, desk: &DeskFile, number: NetId) -> bool
 }
 
 /// Whether a pin of this direction is at rest.
-fn rests(net: &NetlistMaker, desk: &DeskFile, pin: PinRef, dir: Dir) -> bool
+fn rests(net: &Netlist, desk: &DeskFile, pin: PinRef, dir: Dir) -> bool
     requires { IsKnownPin net.now pin }
     ensures { result ≡ is_at_rest desk.now dir (net_of (netlist net.now) (pin_named net.now pin)) }
 {
@@ -48,7 +48,7 @@ fn rests(net: &NetlistMaker, desk: &DeskFile, pin: PinRef, dir: Dir) -> bool
 }
 
 /// Whether a component's pin is at rest.
-fn is_at_rest(net: &NetlistMaker, desk: &DeskFile, comp: CompId, pin: u32) -> bool
+fn is_at_rest(net: &Netlist, desk: &DeskFile, comp: CompId, pin: u32) -> bool
     requires { IsKnownPin net.now (PinRef.Pin comp pin) }
     ensures { option_map (λ r. is_at_rest desk.now (dir_of_role r) (net_of (netlist net.now) (pin_named net.now (PinRef.Pin comp pin)))) (role_at (slice_get net.now.comps comp.0) pin) ≡ Some result }
 {
@@ -56,7 +56,7 @@ fn is_at_rest(net: &NetlistMaker, desk: &DeskFile, comp: CompId, pin: u32) -> bo
 }
 
 /// Whether all pins of a component are at rest.
-fn are_at_rest(net: &NetlistMaker, desk: &DeskFile, comp: CompId, count: u32) -> bool
+fn are_at_rest(net: &Netlist, desk: &DeskFile, comp: CompId, count: u32) -> bool
     requires { option_map (λ r. length (pins r)) (slice_get net.now.comps comp.0) ≡ Some count }
     ensures { option_map (λ r. list_all (λ p. is_at_rest desk.now (dir_of_role p.1) (get (component net.now.nets r).joined p.0)) (pins r)) (slice_get net.now.comps comp.0) ≡ Some result }
 {
@@ -70,7 +70,7 @@ fn are_at_rest(net: &NetlistMaker, desk: &DeskFile, comp: CompId, count: u32) ->
 }
 
 /// Whether a component is a gate with all pins at rest.
-fn is_idle(net: &NetlistMaker, desk: &DeskFile, comp: CompId) -> bool
+fn is_idle(net: &Netlist, desk: &DeskFile, comp: CompId) -> bool
     requires { comp.0 < length net.now.comps }
     ensures { option_map (λ r. is_idle desk.now (component net.now.nets r)) (slice_get net.now.comps comp.0) ≡ Some result }
 {
@@ -85,7 +85,7 @@ fn is_idle(net: &NetlistMaker, desk: &DeskFile, comp: CompId) -> bool
 }
 
 /// Whether a component is placed and a gate with all pins at rest.
-fn is_free(net: &NetlistMaker, desk: &DeskFile, comp: CompId) -> bool
+fn is_free(net: &Netlist, desk: &DeskFile, comp: CompId) -> bool
     requires { comp.0 < length net.now.comps }
     ensures { option_map (λ r. is_some r.place && is_idle desk.now (component net.now.nets r)) (slice_get net.now.comps comp.0) ≡ Some result }
 {
@@ -93,7 +93,7 @@ fn is_free(net: &NetlistMaker, desk: &DeskFile, comp: CompId) -> bool
 }
 
 /// Whether a component is stock.
-pub fn is_stock(net: &NetlistMaker, desk: &DeskFile, comp: CompId) -> bool
+pub fn is_stock(net: &Netlist, desk: &DeskFile, comp: CompId) -> bool
     requires { comp.0 < length net.now.comps }
     ensures { option_map (is_stock_row desk.now net.now.nets) (slice_get net.now.comps comp.0) ≡ Some result }
 {
@@ -101,7 +101,7 @@ pub fn is_stock(net: &NetlistMaker, desk: &DeskFile, comp: CompId) -> bool
 }
 
 /// The place of a component that is stock, in database units.
-pub fn stock_place(net: &NetlistMaker, desk: &DeskFile, comp: CompId) -> Option<Point>
+pub fn stock_place(net: &Netlist, desk: &DeskFile, comp: CompId) -> Option<Point>
     requires { comp.0 < length net.now.comps }
     ensures { option_map (λ r. cond (is_stock_row desk.now net.now.nets r) r.place None) (slice_get net.now.comps comp.0) ≡ Some result }
 {
@@ -113,7 +113,7 @@ pub fn stock_place(net: &NetlistMaker, desk: &DeskFile, comp: CompId) -> Option<
 }
 
 /// Whether a component is spare-named and no stock.
-pub fn is_skipped(net: &NetlistMaker, desk: &DeskFile, comp: CompId) -> bool
+pub fn is_skipped(net: &Netlist, desk: &DeskFile, comp: CompId) -> bool
     requires { comp.0 < length net.now.comps }
     ensures { option_map (is_skipped_row desk.now net.now.nets) (slice_get net.now.comps comp.0) ≡ Some result }
 {

@@ -20,4 +20,4 @@ returns-in-Some g c =
     c.is_supply.ensures
     ∙ ap (λ (p : Name). powers c.bytes_at-model.result.now p) c.bytes_at.ensures
     ∙ ap (λ (m : Name). powers m pin) c.bytes_at-model.ensures
-    ∙ sym (supply_numbered powers c.args.maker.now c.counts-listing.ensures.listing c.args.text.now c.args.comps.now comp pin c.in-Some.comp.id.0 c.requires.numbers (looked_up c.args.maker.now comp _ (Some c.in-Some.comp) c.in-Some.is c.requires.comp).0)
+    ∙ sym (supply_numbered powers c.args.maker.now c.counts-listing.ensures.listing c.args.text.now c.args.comps.now comp pin c.in-Some.number.0 c.requires.numbers (looked_up c.args.maker.now comp _ (Some c.in-Some.number) c.in-Some.is c.requires.comp))

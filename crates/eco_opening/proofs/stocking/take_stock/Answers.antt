@@ -1,12 +1,12 @@
-use Rattle.std.proofs.Common.{◌≤◌, length, List, map, slice_get, sym, ap, ◌∙◌, subst}
+use Rattle.std.proofs.Common.{◌≡◌, ℕ, ◌≤◌, length, List, map, slice_get, refl, sym, ap, ◌∙◌, subst}
 use Rattle.std.specs.List.{All}
 use Rattle.std.specs.Option.{option_map}
 use Rattle.std.proofs.lemmas.Result.{err_from_is_err_and}
-use Rattle.eco_net.specs.Listing.{netlist}
+use Rattle.eco_net.specs.Listing.{netlist, comp_names}
 use Rattle.eco_spares.specs.Desk.{Desk}
 use Rattle.eco_stock.specs.declared.stock.Spare.{Spare}
 use Rattle.eco_opening.specs.Bases.{stock_names}
-use Rattle.eco_opening.specs.Stocked.{IsGateRow, BlamesTies}
+use Rattle.eco_opening.specs.Stocked.{IsGateRow, BlamesTies, BlamesCount}
 use Rattle.eco_opening.proofs.StockFaults.{ties_first, count_first, loop_first}
 use Rattle.eco_opening.proofs.Counting.{census_is}
 use Rattle.eco_opening.proofs.StockTaken.{tie_is_net, all_gates, count_is, base_is, stocked_is, both_tied}
@@ -14,18 +14,18 @@ use Rattle.eco_opening.proofs.stocking.take_stock.Goals as goal
 
 pub returns-in_err-check_ties-clause-fault : goal.returns-in_err-check_ties-clause-fault
 returns-in_err-check_ties-clause-fault c =
-    let p = err_from_is_err_and c.from_residual.result c.from_residual.ensures.1 in
-    let full = c.args.full in
-    let same = c.requires.listed.netlist in
+    let p = err_from_is_err_and c.from_residual-in_err-check_ties.result c.from_residual-in_err-check_ties.ensures.1 in
+    let full = c.in_ok-full.full in
+    let same = ap netlist c.in_ok-full.ensures.listed ∙ c.requires.listed.netlist in
     rw (p.1, p.2) (ties_first c.args.texts.now (netlist full) same c.in_err-check_ties.field-0.0 (subst (λ (d : Desk). BlamesTies d (netlist full) c.in_err-check_ties.field-0.0) c.desk-desk.ensures c.in_err-check_ties.ensures.fault))
 
 pub returns-in_err-check_count-clause-fault : goal.returns-in_err-check_count-clause-fault
 returns-in_err-check_count-clause-fault c =
     let p = err_from_is_err_and c.from_residual-in_err-check_count.result c.from_residual-in_err-check_count.ensures.1 in
     let t = c.args.texts.now in
-    let full = c.args.full in
-    let same = c.requires.listed.netlist in
-    let names = c.requires.numbers in
+    let full = c.in_ok-full.full in
+    let same = ap netlist c.in_ok-full.ensures.listed ∙ c.requires.listed.netlist in
+    let names = ap comp_names c.in_ok-full.ensures.listed ∙ c.requires.numbers in
     let spares = c.in_ok-stock.stock.spares.items in
     let count = count_is t full c.counts-counts.ensures.listing same names c.desk-desk.result.now c.desk-desk.ensures spares c.in_ok-stock.ensures.rows in
     rw (p.1, p.2) (count_first t (both_tied t (netlist full) same c.desk-desk.result.now c.desk-desk.ensures c.in_ok-check_ties.ensures.high c.in_ok-check_ties.ensures.low)
@@ -39,26 +39,26 @@ returns-in_err-stock-clause-fault c =
 pub functions_of-requires : goal.functions_of-requires
 functions_of-requires c =
     let t = c.args.texts.now in
-    let full = c.args.full in
-    let same = c.requires.listed.netlist in
-    let names = c.requires.numbers in
+    let full = c.in_ok-full.full in
+    let same = ap netlist c.in_ok-full.ensures.listed ∙ c.requires.listed.netlist in
+    let names = ap comp_names c.in_ok-full.ensures.listed ∙ c.requires.numbers in
     let spares = c.in_ok-stock.stock.spares.items in
     subst (All (λ (s : Spare). IsGateRow (slice_get full.comps s.comp))) (sym c.deref-2.ensures.value)
     (all_gates t full c.counts-counts.ensures.listing same names c.desk-desk.result.now c.desk-desk.ensures spares c.in_ok-stock.ensures.rows c.in_ok-stock.ensures.numbers)
 
 pub without_stock-requires-clause-high : goal.without_stock-requires-clause-high
-without_stock-requires-clause-high c = tie_is_net c.desk-desk.result.now.prefixes (netlist c.args.full) c.desk-desk.result.now.high _ c.in_ok-check_ties.ensures.high
+without_stock-requires-clause-high c = tie_is_net c.desk-desk.result.now.prefixes (netlist c.in_ok-full.full) c.desk-desk.result.now.high _ c.in_ok-check_ties.ensures.high
 
 pub without_stock-requires-clause-low : goal.without_stock-requires-clause-low
-without_stock-requires-clause-low c = tie_is_net c.desk-desk.result.now.prefixes (netlist c.args.full) c.desk-desk.result.now.low _ c.in_ok-check_ties.ensures.low
+without_stock-requires-clause-low c = tie_is_net c.desk-desk.result.now.prefixes (netlist c.in_ok-full.full) c.desk-desk.result.now.low _ c.in_ok-check_ties.ensures.low
 
 pub returns-in_err-depth-clause-fault : goal.returns-in_err-depth-clause-fault
 returns-in_err-depth-clause-fault c =
     let p = err_from_is_err_and c.from_residual-in_err-depth.result c.from_residual-in_err-depth.ensures.1 in
     let t = c.args.texts.now in
-    let full = c.args.full in
-    let same = c.requires.listed.netlist in
-    let names = c.requires.numbers in
+    let full = c.in_ok-full.full in
+    let same = ap netlist c.in_ok-full.ensures.listed ∙ c.requires.listed.netlist in
+    let names = ap comp_names c.in_ok-full.ensures.listed ∙ c.requires.numbers in
     let desk = c.desk-desk.result.now in
     let spares = c.in_ok-stock.stock.spares.items in
     let count = count_is t full c.counts-counts.ensures.listing same names desk c.desk-desk.ensures spares c.in_ok-stock.ensures.rows in
@@ -70,13 +70,13 @@ returns-in_err-depth-clause-fault c =
 pub returns-clause-stocked : goal.returns-clause-stocked
 returns-clause-stocked c =
     let t = c.args.texts.now in
-    let full = c.args.full in
-    let same = c.requires.listed.netlist in
-    let names = c.requires.numbers in
+    let full = c.in_ok-full.full in
+    let same = ap netlist c.in_ok-full.ensures.listed ∙ c.requires.listed.netlist in
+    let names = ap comp_names c.in_ok-full.ensures.listed ∙ c.requires.numbers in
     let stock = c.in_ok-stock.stock in
     let few = subst (λ (xs : List Spare). length xs ≤ 32768) c.deref.ensures.value c.in_ok-check_count.ensures.few in
     let functions = c.in_ok-functions.ensures ∙ ap (map (λ (x : Spare). option_map (λ r. r.kind) (slice_get full.comps x.comp))) c.deref-2.ensures.value in
     stocked_is t full c.counts-counts.ensures.listing same names (record { netlist = c.in_ok-netlist.netlist; spares = stock.spares; functions = c.in_ok-functions.functions; skipped = stock.skipped; census = c.census_of-census.result; depth = c.in_ok-depth.depth })
-    c.counts-counts.ensures.whole few c.in_ok-stock.ensures.numbers functions c.in_ok-depth.ensures.free c.in_ok-depth.ensures.depth
+    c.in_ok-full.ensures.whole few c.in_ok-stock.ensures.numbers functions c.in_ok-depth.ensures.free c.in_ok-depth.ensures.depth
     (census_is t full c.counts-counts.ensures.listing same names c.desk-desk.result.now c.desk-desk.ensures stock c.census_of-census.result c.in_ok-stock.ensures.rows c.in_ok-stock.ensures.skipped c.census_of-census.ensures)
     c.desk-desk.result.now c.desk-desk.ensures c.in_ok-check_ties.ensures.high c.in_ok-check_ties.ensures.low c.in_ok-stock.ensures.rows c.in_ok-stock.ensures.skipped c.in_ok-netlist.ensures.base

@@ -9,18 +9,20 @@ use Rattle.eco_stock.proofs.base.without_stock.Goals as goal
 pub mark_ties-requires-clause-low : goal.mark_ties-requires-clause-low
 mark_ties-requires-clause-low c =
     let desk = c.args.desk.now in
-    let L : Listing = c.args.full in
+    let L : Listing = c.args.net in
     let M : Listing = c.in_ok-maker.maker in
-    let out : netlist M ≡ without_comps (netlist L) (marked_names c.deref.result.now L.comps) = c.in_ok-maker.ensures.named in
+    let out : netlist M ≡ without_comps (netlist L) (marked_names c.deref.result.now L.comps) =
+    subst (λ (K : Listing). netlist M ≡ without_comps (netlist K) (marked_names c.deref.result.now K.comps)) c.into_maker.ensures c.in_ok-maker.ensures.named in
     let apart = set_apart desk L M (netlist c.reserve_all.new.maker) c.deref.result.now c.args.stock.now.spares.items c.deref-2.result.now out (c.deref.ensures.value ∙ c.requires.marks) c.requires.rows c.deref-2.ensures.value c.in_ok-reserve_all.ensures in
     subst (λ (N : Netlist). IsNet N desk.low) (sym apart) c.requires.low
 
 pub returns-clause-base : goal.returns-clause-base
 returns-clause-base c =
     let desk = c.args.desk.now in
-    let L : Listing = c.args.full in
+    let L : Listing = c.args.net in
     let M : Listing = c.in_ok-maker.maker in
-    let out : netlist M ≡ without_comps (netlist L) (marked_names c.deref.result.now L.comps) = c.in_ok-maker.ensures.named in
+    let out : netlist M ≡ without_comps (netlist L) (marked_names c.deref.result.now L.comps) =
+    subst (λ (K : Listing). netlist M ≡ without_comps (netlist K) (marked_names c.deref.result.now K.comps)) c.into_maker.ensures c.in_ok-maker.ensures.named in
     let apart = set_apart desk L M (netlist c.reserve_all.new.maker) c.deref.result.now c.args.stock.now.spares.items c.deref-2.result.now out (c.deref.ensures.value ∙ c.requires.marks) c.requires.rows c.deref-2.ensures.value c.in_ok-reserve_all.ensures in
     if_ok
     (λ (n : Listing). n ≡ c.mark_ties.new.maker)

@@ -5,7 +5,7 @@ use Rattle.std.proofs.lemmas.List.{length-map}
 use Rattle.eco_net.specs.Netlist.{pins_of}
 use Rattle.eco_net.specs.Listing.{kind_of}
 use Rattle.eco_net.proofs.Basics.{same_Some}
-use Rattle.eco_net.proofs.kind.Kind.find_among.Goals as goal
+use Rattle.eco_net.proofs.kind.Kind.find_pin.Goals as goal
 
 pub returns-then-eq : goal.returns-then-eq
 returns-then-eq c =
@@ -24,5 +24,5 @@ pub returns : goal.returns
 returns c = λ h.
     let ps = pins_of (kind_of c.args.self.now) in
     let names = map (λ p. p.0) ps in
-    let below : h.0 < c.loop-pin.pin = omega (arith, h.1, length-map ps (λ p. p.0), c.requires, c.loop-pin-test.false) in
+    let below : h.0 < c.loop-pin.pin = omega (arith, h.1, length-map ps (λ p. p.0), c.pin_count-pin-end.ensures.count, c.loop-pin-test.false) in
     c.loop-pin.invariant h.0 below (slice_get-get_or names h.0 c.args.name.now h.1 ∙ ap Some h.2)
