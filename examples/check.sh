@@ -1,6 +1,5 @@
 #!/bin/sh
-# Builds `eco`, opens the base of examples/small.lef, small.def, small.toml and desk.toml, and counts what it has.
+# Opens the base of small.lef, small.def, small.toml and desk.toml, and counts what it has.
 set -e
-cd "$(dirname "$0")/../crates/eco_host"
-rt run -- check --lef ../../examples/small.lef --def ../../examples/small.def --functions ../../examples/small.toml \
-    --desk ../../examples/desk.toml
+cd "$(dirname "$0")"
+../eco check --lef small.lef --def small.def --functions small.toml --desk desk.toml

@@ -1,13 +1,9 @@
-ghost use Rattle.eco_base.specs.OneLaws.{OneGateApplies, SameJoints};
+//! A law of open bases.
 
-/// A law: where a component is a spare of the stock, an order of one gate is good and the gate is embedded in the spare, an
-/// overlay that puts the spare's pins on their nets applies the order: the netlists with the gate and with the spare have
-/// the same valuations and mean the same, and on a plain base the issued text reads back to the second.
-pub fn one_gate_applies()
-    ensures { OneGateApplies }
-{}
+ghost use Rattle.eco_base.specs.Laws.{OpenIsBase};
 
-/// A law: pins put on nets are the same by either record of a joint.
-pub fn same_joints()
-    ensures { SameJoints }
+/// A law: an open base is one that the laws of patches speak of: it is whole and loop-free without its stock, its tie nets
+/// have their values by what is no stock, its stock are gates that drive nothing, and no component's name has a blank.
+pub fn open_is_base()
+    ensures { OpenIsBase }
 {}

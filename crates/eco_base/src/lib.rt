@@ -1,22 +1,37 @@
-//! A frozen base, one patch gate on one spare of its stock, and the edits of its text that carry a patch out.
+//! The frozen base of a taped-out chip: opened from its four texts, with its tie nets and its stock of spare cells, or
+//! refused with its first fault.
 #![tactic(auto)]
 
-mod apply_gate;
-mod embedded;
-mod gate_joints;
-mod good_order;
+mod base;
+mod census;
+mod constant;
+mod digest;
+mod fault;
+mod finding;
+mod free_stock;
+mod idle;
+mod joining;
 mod laws;
-mod named_pins;
-mod new_nets;
-mod one_fault;
-mod one_gate;
-mod patch_master;
-mod patched;
-mod spare;
+mod opening;
+mod reading;
+mod sources;
+mod stock;
+mod stock_laws;
+mod stock_removal;
+mod stocked;
+mod stocking;
+mod texts;
+mod ties;
 
-pub use crate::apply_gate::apply_one;
-pub use crate::laws::{one_gate_applies, same_joints};
-pub use crate::one_fault::OneFault;
-pub use crate::one_gate::OneGate;
-pub use eco_opening::{Base, BaseFault, FreeStock, open_base};
+pub use crate::base::Base;
+pub use crate::census::Census;
+pub use crate::fault::BaseFault;
+pub use crate::finding::find_stock;
+pub use crate::free_stock::FreeStock;
+pub use crate::laws::open_is_base;
+pub use crate::opening::open_base;
+pub use crate::stock::{Spare, Stock};
+pub use crate::stock_laws::{stock_drives_nothing, stock_in_words, tie_nets_are_constant};
+pub use crate::stock_removal::without_stock;
+pub use crate::ties::is_tied;
 pub use eco_overlay::{MoveFault, NewJoint, Overlay, emit, emit_len, move_joint};

@@ -1,7 +1,7 @@
 -- What follows from the answer of a command line.
 use Rattle.std.proofs.Common.{◌<◌, ◌≡◌, ◌⊎◌, ℕ, Bool, true, false, inl, inr, ⊎_elim, List, [], ◌∷◌, Option, Some, None, Result, Ok, Err, refl, sym, subst, ◌∙◌, arith}
 use Rattle.std.specs.Io.KnownBytes.{append_known}
-use Rattle.eco_text.specs.Causes.{Rose}
+use Rattle.eco_common.specs.Causes.{Rose}
 use Rattle.eco_cli.specs.CommandLine.{Listed, is_bad, is_complete, HasReading, IsFirstBad}
 use Rattle.eco_cli.specs.Commands.{options_of, Asks, IsBadWord}
 use Rattle.eco_cli.specs.Opens.{Told}

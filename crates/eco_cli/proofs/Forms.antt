@@ -7,7 +7,8 @@ use Rattle.std.proofs.lemmas.Slice.Eq.{bytes_eq-Decides}
 use Rattle.eco_embed.specs.declared.feed.Feed.{Feed}
 use Rattle.eco_embed.specs.declared.feed.Feed.TheVariants as feed
 use Rattle.eco_cli.specs.ApplyCommand.{feed_word}
-use Rattle.eco_cli.specs.CommandLine.{Listed, is_among, options_in, is_value, has_form, suits, word_at, is_bad, value_of, HasReading}
+use Rattle.eco_cli.specs.CommandLine.{Listed, options_in, is_value, has_form, suits, word_at, is_bad, value_of, HasReading}
+use Rattle.eco_common.specs.NameBytes.{is_among}
 use Rattle.eco_cli.specs.ValueForms.{items_of, is_feed, feed_of, is_feed_list}
 
 first : (b c : Bool) → (b && c) ≡ true → b ≡ true

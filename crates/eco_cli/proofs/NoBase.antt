@@ -1,6 +1,6 @@
 -- Texts that are those of no base are refused.
 use Rattle.std.proofs.Common.{ℕ, List, Err}
-use Rattle.eco_opening.specs.declared.fault.BaseFault.{BaseFault}
+use Rattle.eco_base.specs.declared.fault.BaseFault.{BaseFault}
 use Rattle.eco_cli.specs.BaseTexts.{RefusesBase, OpensBase}
 use Rattle.eco_cli.specs.Steps.{Plans}
 use Rattle.eco_cli.specs.declared.base_texts.BaseTexts.{BaseTexts}

@@ -6,7 +6,7 @@ use Rattle.std.proofs.lemmas.List.{map-append, take_more, drop_more, take-append
 use Rattle.std.proofs.lemmas.List.Concat.{flat_map-append}
 use Rattle.std.proofs.lemmas.List.Folds.{flat_map-map}
 use Rattle.std.proofs.Math.Seq.{take-append-add}
-use Rattle.eco_text.specs.Causes.{Rose}
+use Rattle.eco_common.specs.Causes.{Rose}
 use Rattle.eco_cli.specs.CommandLine.{inputs_in, input_at, listed_of, value_of}
 use Rattle.eco_cli.specs.Ending.{IsText, IsRead, AreRead, AsksAll, ready_after, Reaches}
 use Rattle.eco_cli.specs.Job.{Input, source_opens}

@@ -3,7 +3,8 @@ use Rattle.std.proofs.Common.{◌≡◌, ℕ, zero, suc, inl, inr, ◌-◌, ◌+
 use Rattle.std.proofs.lemmas.List.{take_all}
 use Rattle.std.specs.List.{list_all, list_any}
 use Rattle.std.specs.Str.{bytes_eq}
-use Rattle.eco_cli.specs.CommandLine.{Listed, is_listed, is_among, options_in, is_value, suits, word_at, is_bad, is_complete, value_of, NoneBad, HasReading, IsFirstBad}
+use Rattle.eco_cli.specs.CommandLine.{Listed, is_listed, options_in, is_value, suits, word_at, is_bad, is_complete, value_of, NoneBad, HasReading, IsFirstBad}
+use Rattle.eco_common.specs.NameBytes.{is_among}
 use Rattle.eco_cli.specs.Commands.{command_named, options_of, Asks, IsBadWord}
 use Rattle.eco_cli.specs.declared.command.Command.{Command}
 

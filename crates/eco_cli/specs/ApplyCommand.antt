@@ -1,16 +1,17 @@
 -- What the command apply does.
 use Rattle.std.specs.Prelude.{◌≡◌, ◌≢◌, ℕ, ◌+◌, List, [], ◌∷◌, map, length, codes, Some, Ok, Err}
+use Rattle.eco_common.specs.declared.limits.TheConstants.{MAX_LEF_BYTES, MAX_DEF_BYTES, MAX_FUNCTIONS_BYTES, MAX_DESK_BYTES}
 use Rattle.eco_func.specs.FunctionsFile.{table_of}
 use Rattle.eco_func.specs.Tables.{TruthTable}
 use Rattle.eco_embed.specs.declared.feed.Feed.{Feed}
 use Rattle.eco_embed.specs.declared.feed.Feed.TheVariants as feed
-use Rattle.eco_issued.specs.Issued.{Edit, edited}
-use Rattle.eco_opening.specs.Bases.{BaseParts}
-use Rattle.eco_opening.specs.Opened.{IsOpened}
-use Rattle.eco_base.specs.declared.one_fault.OneFault.{OneFault}
-use Rattle.eco_base.specs.declared.one_fault.OneFault.TheVariants as fault
-use Rattle.eco_base.specs.declared.one_gate.OneGate.{OneGate}
-use Rattle.eco_base.specs.OneAnswers.{AppliesOne}
+use Rattle.eco_issued_laws.specs.Issued.{Edit, edited}
+use Rattle.eco_base.specs.Bases.{BaseParts}
+use Rattle.eco_base.specs.Opened.{IsOpened}
+use Rattle.eco_one_gate.specs.declared.one_fault.OneFault.{OneFault}
+use Rattle.eco_one_gate.specs.declared.one_fault.OneFault.TheVariants as fault
+use Rattle.eco_one_gate.specs.declared.one_gate.OneGate.{OneGate}
+use Rattle.eco_one_gate.specs.OneAnswers.{AppliesOne}
 use Rattle.eco_cli.specs.BaseTexts.{RefusesBase}
 use Rattle.eco_cli.specs.CommandLine.{Listed, value_of}
 use Rattle.eco_cli.specs.ValueForms.{items_of}
@@ -23,10 +24,10 @@ use Rattle.eco_cli.specs.declared.refusal.Refusal.TheVariants as refused
 
 abbrev pub apply_options : List Listed
 apply_options =
-    record { word = codes "--lef"; kind = kind.Input 67108864 }
-    ∷ record { word = codes "--def"; kind = kind.Input 134217728 }
-    ∷ record { word = codes "--functions"; kind = kind.Input 16777216 }
-    ∷ record { word = codes "--desk"; kind = kind.Input 1048576 }
+    record { word = codes "--lef"; kind = kind.Input MAX_LEF_BYTES }
+    ∷ record { word = codes "--def"; kind = kind.Input MAX_DEF_BYTES }
+    ∷ record { word = codes "--functions"; kind = kind.Input MAX_FUNCTIONS_BYTES }
+    ∷ record { word = codes "--desk"; kind = kind.Input MAX_DESK_BYTES }
     ∷ record { word = codes "--spare"; kind = kind.Text }
     ∷ record { word = codes "--table"; kind = kind.Table }
     ∷ record { word = codes "--inputs"; kind = kind.Names }

@@ -1,9 +1,10 @@
 -- The four texts of a base.
 use Rattle.std.specs.Prelude.{◌≢◌, ℕ, ◌≤◌, List, [], ◌∷◌, length, Result, Ok, Err}
-use Rattle.eco_opening.specs.Bases.{BaseParts}
-use Rattle.eco_opening.specs.Opened.{IsOpened, IsFirstFault}
-use Rattle.eco_opening.specs.declared.fault.BaseFault.{BaseFault}
-use Rattle.eco_opening.specs.declared.fault.BaseFault.TheVariants as base
+use Rattle.eco_common.specs.declared.limits.TheConstants.{MAX_LEF_BYTES, MAX_DEF_BYTES}
+use Rattle.eco_base.specs.Bases.{BaseParts}
+use Rattle.eco_base.specs.Opened.{IsOpened, IsFirstFault}
+use Rattle.eco_base.specs.declared.fault.BaseFault.{BaseFault}
+use Rattle.eco_base.specs.declared.fault.BaseFault.TheVariants as base
 use Rattle.eco_cli.specs.declared.base_texts.BaseTexts.{BaseTexts}
 use Rattle.eco_cli.specs.declared.failure.Failure.{Failure}
 use Rattle.eco_cli.specs.declared.failure.Failure.TheVariants as failed
@@ -14,7 +15,7 @@ texts_in t = t.lef.items ∷ t.def.items ∷ t.functions.items ∷ t.desk.items 
 
 -- a LEF, a DEF, a functions file and a desk file, the first two not too long to be read
 abbrev pub AreBaseTexts : List (List ℕ) → Type 0
-AreBaseTexts (lef ∷ def ∷ functions ∷ desk ∷ []) = (length lef ≤ 67108864) × (length def ≤ 134217728)
+AreBaseTexts (lef ∷ def ∷ functions ∷ desk ∷ []) = (length lef ≤ MAX_LEF_BYTES) × (length def ≤ MAX_DEF_BYTES)
 AreBaseTexts texts = ⊥
 
 -- the texts are those of no base, by this first reason

@@ -1,10 +1,11 @@
 -- What the command check does.
 use Rattle.std.specs.Prelude.{◌≡◌, ℕ, List, [], ◌∷◌, codes}
+use Rattle.eco_common.specs.declared.limits.TheConstants.{MAX_LEF_BYTES, MAX_DEF_BYTES, MAX_FUNCTIONS_BYTES, MAX_DESK_BYTES}
 use Rattle.eco_net.specs.Depth.{IsDepth}
-use Rattle.eco_patch.specs.Bases.{bare}
-use Rattle.eco_opening.specs.Bases.{BaseParts, frozen}
-use Rattle.eco_opening.specs.Census.{IsCensusOf}
-use Rattle.eco_opening.specs.Opened.{IsOpened}
+use Rattle.eco_net.specs.Bases.{bare}
+use Rattle.eco_base.specs.Bases.{BaseParts, frozen}
+use Rattle.eco_base.specs.Census.{IsCensusOf}
+use Rattle.eco_base.specs.Opened.{IsOpened}
 use Rattle.eco_cli.specs.BaseTexts.{RefusesBase}
 use Rattle.eco_cli.specs.CommandLine.{Listed}
 use Rattle.eco_cli.specs.declared.command_option.OptionKind.TheVariants as kind
@@ -16,10 +17,10 @@ use Rattle.eco_cli.specs.declared.report.Report.{Report}
 
 abbrev pub check_options : List Listed
 check_options =
-    record { word = codes "--lef"; kind = kind.Input 67108864 }
-    ∷ record { word = codes "--def"; kind = kind.Input 134217728 }
-    ∷ record { word = codes "--functions"; kind = kind.Input 16777216 }
-    ∷ record { word = codes "--desk"; kind = kind.Input 1048576 }
+    record { word = codes "--lef"; kind = kind.Input MAX_LEF_BYTES }
+    ∷ record { word = codes "--def"; kind = kind.Input MAX_DEF_BYTES }
+    ∷ record { word = codes "--functions"; kind = kind.Input MAX_FUNCTIONS_BYTES }
+    ∷ record { word = codes "--desk"; kind = kind.Input MAX_DESK_BYTES }
     ∷ []
 
 -- how much a base has, and how deep its gates stand where the stock is left out

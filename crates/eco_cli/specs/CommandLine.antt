@@ -2,6 +2,7 @@
 use Rattle.std.specs.Prelude.{◌≡◌, ℕ, ◌-◌, ◌<◌, ◌⊎◌, ◌%◌, ◌==◌, Bool, true, false, not, ◌&&◌, ◌||◌, List, [], ◌∷◌, length, take, get_or, codes, Option, Some, None, if◌then◌else◌}
 use Rattle.std.specs.List.{list_all, list_any, flat_map}
 use Rattle.std.specs.Str.{bytes_eq}
+use Rattle.eco_common.specs.NameBytes.{is_among}
 use Rattle.eco_cli.specs.Job.{Input}
 use Rattle.eco_cli.specs.ValueForms.{is_name_list, is_table, is_feed_list}
 use Rattle.eco_cli.specs.declared.command_option.CommandOption.{CommandOption}
@@ -19,9 +20,6 @@ listed_of o = record { word = o.word.now; kind = o.kind }
 -- the word of an option of the table
 abbrev pub is_listed : List Listed → List ℕ → Bool
 is_listed table w = list_any (λ o. bytes_eq o.word w) table
-
-abbrev pub is_among : List (List ℕ) → List ℕ → Bool
-is_among names w = list_any (λ n. bytes_eq n w) names
 
 -- every other word, from the first on
 abbrev pub options_in : List (List ℕ) → List (List ℕ)

@@ -1,7 +1,7 @@
 -- How a command line ends, by what the host was and is.
 use Rattle.std.specs.Prelude.{◌≡◌, ℕ, ◌<◌, ◌≤◌, ◌⊎◌, List, [], ◌∷◌, ◌++◌, length, take, Option, Some, None, Result, Ok, Err}
 use Rattle.std.specs.Option.{option_map}
-use Rattle.eco_text.specs.Causes.{Rose}
+use Rattle.eco_common.specs.Causes.{Rose}
 use Rattle.eco_cli.specs.Job.{Input, Job, source_opens, opens_of}
 use Rattle.eco_cli.specs.Commands.{job_of, Asks, IsBadWord}
 use Rattle.eco_cli.specs.Opens.{Ready, Asked, Told, without_first, with_back}

@@ -1,10 +1,11 @@
 -- What the command move does.
 use Rattle.std.specs.Prelude.{◌≡◌, ℕ, List, [], ◌∷◌, length, codes, Some, None, Err}
+use Rattle.eco_common.specs.declared.limits.TheConstants.{MAX_DEF_BYTES}
 use Rattle.eco_def.specs.Design.{Design}
 use Rattle.eco_def.specs.Named.{names_of}
-use Rattle.eco_def.specs.Limits.{reading_of}
-use Rattle.eco_issued.specs.Changes.{NewJoint}
-use Rattle.eco_issued.specs.Issued.{issued_text}
+use Rattle.eco_def.specs.Grammar.{reading_of}
+use Rattle.eco_issued_laws.specs.Changes.{NewJoint}
+use Rattle.eco_issued_laws.specs.Issued.{issued_text}
 use Rattle.eco_overlay.specs.Moving.{move_fault}
 use Rattle.eco_cli.specs.CommandLine.{Listed, value_of}
 use Rattle.eco_cli.specs.Designs.{HasDesign}
@@ -17,7 +18,7 @@ use Rattle.eco_cli.specs.declared.refusal.Refusal.TheVariants as refused
 
 abbrev pub move_options : List Listed
 move_options =
-    record { word = codes "--def"; kind = kind.Input 134217728 }
+    record { word = codes "--def"; kind = kind.Input MAX_DEF_BYTES }
     ∷ record { word = codes "--comp"; kind = kind.Text }
     ∷ record { word = codes "--pin"; kind = kind.Text }
     ∷ record { word = codes "--from"; kind = kind.Text }

@@ -2,7 +2,7 @@
 use Rattle.std.specs.Prelude.{◌≡◌, ℕ, ◌<◌, ◌≤◌, ◌+◌, List, [], ◌∷◌, ◌++◌, Option, Some, None, Result, Ok, Err, if◌then◌else◌}
 use Rattle.std.specs.Option.{option_map}
 use Rattle.std.specs.Str.{bytes_eq}
-use Rattle.eco_text.specs.Causes.{Rose}
+use Rattle.eco_common.specs.Causes.{Rose}
 use Rattle.eco_cli.specs.declared.host_fault.HostFault.{HostFault}
 use Rattle.eco_cli.specs.declared.host_fault.HostFault.TheVariants.{Refused, Memory}
 

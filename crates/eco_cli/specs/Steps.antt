@@ -1,8 +1,8 @@
 -- The steps of a job.
 use Rattle.std.specs.Prelude.{◌≡◌, ℕ, ◌<◌, ◌≤◌, ◌⊎◌, List, [], ◌∷◌, length, take, Option, Some, Result, Ok, Err}
-use Rattle.eco_text.specs.Causes.{Rose}
+use Rattle.eco_common.specs.Causes.{Rose}
 use Rattle.eco_def.specs.Sections.{IsReadingOf}
-use Rattle.eco_issued.specs.Issued.{edited}
+use Rattle.eco_issued_laws.specs.Issued.{edited}
 use Rattle.eco_overlay.specs.Overlays.{IsMadeFor}
 use Rattle.eco_cli.specs.Job.{Input, source_opens, sink_opens}
 use Rattle.eco_cli.specs.Ending.{IsText, IsRead, AreRead, AsksAll, ready_after, StopsLong, StopsFailed, GivesFront, Puts}

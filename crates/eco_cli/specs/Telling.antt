@@ -2,7 +2,8 @@
 use Rattle.std.specs.Prelude.{◌≡◌, ℕ, decimal, ◌⊎◌, List, [], ◌∷◌, ◌++◌, Option, Result, Ok, Err, codes}
 use Rattle.std.specs.Io.KnownBytes.{append_known}
 use Rattle.std.specs.List.{flat_map}
-use Rattle.eco_text.specs.Causes.{Rose, AppendsFront}
+use Rattle.eco_common.specs.Causes.{Rose}
+use Rattle.eco_text.specs.Writing.{AppendsFront}
 use Rattle.eco_text.specs.declared.word.TextFault.{TextFault}
 use Rattle.eco_text.specs.declared.word.TextFault.TheVariants.{OpenQuote}
 use Rattle.eco_def.specs.declared.fault.DefFault.{DefFault}
@@ -16,10 +17,10 @@ use Rattle.eco_func.specs.declared.fault.FuncFault.TheVariants as func
 use Rattle.eco_net.specs.Netlist.{Name}
 use Rattle.eco_overlay.specs.declared.fault.MoveFault.{MoveFault}
 use Rattle.eco_overlay.specs.declared.fault.MoveFault.TheVariants as moving
-use Rattle.eco_opening.specs.declared.fault.BaseFault.{BaseFault}
-use Rattle.eco_opening.specs.declared.fault.BaseFault.TheVariants as base
-use Rattle.eco_base.specs.declared.one_fault.OneFault.{OneFault}
-use Rattle.eco_base.specs.declared.one_fault.OneFault.TheVariants as one
+use Rattle.eco_base.specs.declared.fault.BaseFault.{BaseFault}
+use Rattle.eco_base.specs.declared.fault.BaseFault.TheVariants as base
+use Rattle.eco_one_gate.specs.declared.one_fault.OneFault.{OneFault}
+use Rattle.eco_one_gate.specs.declared.one_fault.OneFault.TheVariants as one
 use Rattle.eco_cli.specs.declared.done.Done.{Done}
 use Rattle.eco_cli.specs.declared.done.Done.TheVariants as done
 use Rattle.eco_cli.specs.declared.failure.Failure.{Failure}

@@ -1,6 +1,6 @@
 -- What was read of a source.
 use Rattle.std.specs.Prelude.{◌≡◌, ℕ, ◌<◌, ◌≤◌, List, length, Option, Some, Result, Ok, Err}
-use Rattle.eco_text.specs.Causes.{Rose}
+use Rattle.eco_common.specs.Causes.{Rose}
 use Rattle.eco_cli.specs.declared.input.InputFault.{InputFault}
 use Rattle.eco_cli.specs.declared.input.InputFault.TheVariants.{TooLong, Read, Memory}
 

@@ -5,10 +5,9 @@ ghost use Rattle.eco_cli.specs.ApplyCommand.{apply_options, apply_of, AsksApply}
 ghost use Rattle.eco_cli.specs.CommandLine.{HasReading, listed_of};
 
 use crate::command_line::value;
-use crate::command_option::{
-    CommandOption, DEF_LIMIT, DESK_LIMIT, FUNCTIONS_LIMIT, LEF_LIMIT, OptionKind,
-};
+use crate::command_option::{CommandOption, OptionKind};
 use crate::value_form::{feeds, items, table};
+use eco_common::{MAX_DEF_BYTES, MAX_DESK_BYTES, MAX_FUNCTIONS_BYTES, MAX_LEF_BYTES};
 use eco_embed::Feed;
 use eco_func::Table;
 use std::alloc::{AllocError, Global};
@@ -16,21 +15,27 @@ use std::alloc::{AllocError, Global};
 static APPLY_OPTIONS: [CommandOption; 13] = [
     CommandOption {
         word: "--lef",
-        kind: OptionKind::Input { limit: LEF_LIMIT },
+        kind: OptionKind::Input {
+            limit: MAX_LEF_BYTES,
+        },
     },
     CommandOption {
         word: "--def",
-        kind: OptionKind::Input { limit: DEF_LIMIT },
+        kind: OptionKind::Input {
+            limit: MAX_DEF_BYTES,
+        },
     },
     CommandOption {
         word: "--functions",
         kind: OptionKind::Input {
-            limit: FUNCTIONS_LIMIT,
+            limit: MAX_FUNCTIONS_BYTES,
         },
     },
     CommandOption {
         word: "--desk",
-        kind: OptionKind::Input { limit: DESK_LIMIT },
+        kind: OptionKind::Input {
+            limit: MAX_DESK_BYTES,
+        },
     },
     CommandOption {
         word: "--spare",

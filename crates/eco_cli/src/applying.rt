@@ -14,7 +14,8 @@ use crate::opened_base::opened;
 use crate::order::order_of;
 use crate::plan::Plan;
 use crate::refusal::Refusal;
-use eco_base::{Base, OneFault, Overlay, apply_one};
+use eco_base::{Base, Overlay};
+use eco_one_gate::{OneFault, apply_one};
 use std::alloc::Global;
 
 /// A base's text with this overlay of it.

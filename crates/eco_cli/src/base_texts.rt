@@ -1,5 +1,6 @@
 //! The four texts of a base.
 
+ghost use Rattle.eco_common.specs.declared.limits.TheConstants.{MAX_DEF_BYTES, MAX_LEF_BYTES};
 ghost use Rattle.std.specs.Prelude.{◌≤◌, length};
 
 /// The texts of a LEF, a DEF, a functions file and a desk file, none longer than it may be.
@@ -9,6 +10,6 @@ pub struct BaseTexts {
     pub def: Vec<u8>,
     pub functions: Vec<u8>,
     pub desk: Vec<u8>,
-    ghost lef_short: { length lef.items ≤ 67108864 },
-    ghost def_short: { length def.items ≤ 134217728 },
+    ghost lef_short: { length lef.items ≤ MAX_LEF_BYTES },
+    ghost def_short: { length def.items ≤ MAX_DEF_BYTES },
 }

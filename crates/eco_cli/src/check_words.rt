@@ -4,28 +4,33 @@ ghost use Rattle.std.specs.Prelude.{◌≡◌, map};
 ghost use Rattle.eco_cli.specs.CommandLine.{listed_of};
 ghost use Rattle.eco_cli.specs.CheckCommand.{check_options};
 
-use crate::command_option::{
-    CommandOption, DEF_LIMIT, DESK_LIMIT, FUNCTIONS_LIMIT, LEF_LIMIT, OptionKind,
-};
+use crate::command_option::{CommandOption, OptionKind};
+use eco_common::{MAX_DEF_BYTES, MAX_DESK_BYTES, MAX_FUNCTIONS_BYTES, MAX_LEF_BYTES};
 
 static CHECK_OPTIONS: [CommandOption; 4] = [
     CommandOption {
         word: "--lef",
-        kind: OptionKind::Input { limit: LEF_LIMIT },
+        kind: OptionKind::Input {
+            limit: MAX_LEF_BYTES,
+        },
     },
     CommandOption {
         word: "--def",
-        kind: OptionKind::Input { limit: DEF_LIMIT },
+        kind: OptionKind::Input {
+            limit: MAX_DEF_BYTES,
+        },
     },
     CommandOption {
         word: "--functions",
         kind: OptionKind::Input {
-            limit: FUNCTIONS_LIMIT,
+            limit: MAX_FUNCTIONS_BYTES,
         },
     },
     CommandOption {
         word: "--desk",
-        kind: OptionKind::Input { limit: DESK_LIMIT },
+        kind: OptionKind::Input {
+            limit: MAX_DESK_BYTES,
+        },
     },
 ];
 

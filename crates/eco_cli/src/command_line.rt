@@ -4,7 +4,8 @@ ghost use Rattle.std.specs.Prelude.{◌≡◌, ◌<◌, ◌||◌, ◌%◌, not, 
 ghost use Rattle.std.specs.List.{list_all, list_any};
 ghost use Rattle.std.specs.Option.{option_map};
 ghost use Rattle.std.specs.Str.{bytes_eq};
-ghost use Rattle.eco_cli.specs.CommandLine.{listed_of, is_listed, is_among, options_in, is_value, has_form, suits, is_bad, is_complete, HasReading, IsFirstBad, value_of, output_in};
+ghost use Rattle.eco_cli.specs.CommandLine.{listed_of, is_listed, options_in, is_value, has_form, suits, is_bad, is_complete, HasReading, IsFirstBad, value_of, output_in};
+ghost use Rattle.eco_common.specs.NameBytes.{is_among};
 
 use crate::command_option::{CommandOption, OptionKind};
 use crate::value_form::{is_feed_list, is_name_list, is_table};

@@ -21,15 +21,3 @@ pub struct CommandOption {
     pub word: &'static str,
     pub kind: OptionKind,
 }
-
-/// The most bytes of a LEF.
-pub const LEF_LIMIT: u32 = 67_108_864;
-
-/// The most bytes of a DEF.
-pub const DEF_LIMIT: u32 = 134_217_728;
-
-/// The most bytes of a functions file.
-pub const FUNCTIONS_LIMIT: u32 = 16_777_216;
-
-/// The most bytes of a desk file.
-pub const DESK_LIMIT: u32 = 1_048_576;

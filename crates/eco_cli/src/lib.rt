@@ -36,6 +36,7 @@ mod texts;
 mod value_form;
 
 pub use crate::host::Host;
-pub use crate::host_fault::{HostFault, Memory};
+pub use crate::host_fault::HostFault;
 pub use crate::memory::MemoryHost;
 pub use crate::running::run;
+pub use eco_common::Memory;

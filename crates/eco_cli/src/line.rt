@@ -4,7 +4,8 @@ ghost use Rattle.std.specs.Prelude.{◌≡◌, codes, decimal, ◌++◌, [], ◌
 ghost use Rattle.eco_text.specs.Writing.{Writes};
 ghost use Rattle.eco_cli.specs.Telling.{count_line};
 
-use eco_text::{Failed, Sink, write_pieces};
+use eco_common::Failed;
+use eco_text::{Sink, write_pieces};
 use itoa::Buffer;
 
 /// A line that ends with a number.

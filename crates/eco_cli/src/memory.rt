@@ -6,10 +6,11 @@ ghost use Rattle.eco_cli.specs.Opens.{for_source, for_sink, Gives, Asks, Opens, 
 ghost use Rattle.eco_cli.specs.Laid.{laid_source, laid_sink, ready, hosted, asked_of, asked_by, RefusesAbsent};
 
 use crate::host::Host;
-use crate::host_fault::{HostFault, Memory};
+use crate::host_fault::HostFault;
 use crate::laid::{LaidSink, LaidSource};
 use crate::open::{Open, OpenKind};
 use crate::returned::{ReturnedSinks, ReturnedSources};
+use eco_common::Memory;
 use eco_text::{ByteSink, ByteSource};
 use std::alloc::{AllocError, Global};
 use std::marker::Model;

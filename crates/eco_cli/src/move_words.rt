@@ -5,12 +5,15 @@ ghost use Rattle.eco_cli.specs.CommandLine.{listed_of};
 ghost use Rattle.eco_cli.specs.MoveCommand.{move_in, move_of, move_options};
 
 use crate::command_line::value;
-use crate::command_option::{CommandOption, DEF_LIMIT, OptionKind};
+use crate::command_option::{CommandOption, OptionKind};
+use eco_common::MAX_DEF_BYTES;
 
 static MOVE_OPTIONS: [CommandOption; 6] = [
     CommandOption {
         word: "--def",
-        kind: OptionKind::Input { limit: DEF_LIMIT },
+        kind: OptionKind::Input {
+            limit: MAX_DEF_BYTES,
+        },
     },
     CommandOption {
         word: "--comp",

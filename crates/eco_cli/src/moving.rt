@@ -10,12 +10,13 @@ use crate::move_words::MoveWords;
 use crate::plan::Plan;
 use crate::refusal::Refusal;
 use eco_base::{MoveFault, move_joint};
+use eco_common::MAX_DEF_BYTES;
 use eco_def::{DefFault, read_def};
 use std::alloc::Global;
 
 /// Reads the DEF, and moves the pin in it.
 pub fn plan_move(alloc: Global, text: Vec<u8>, asked: &MoveWords<'_>) -> Result<Plan, Failure>
-    requires { length text.items ≤ 134217728 }
+    requires { length text.items ≤ MAX_DEF_BYTES }
     ensures { Plans (MoveGives (move_of asked.now) (text.items ∷ [])) (MoveRefuses (move_of asked.now) (text.items ∷ [])) result }
 {
     let design = match read_def(alloc, &text) {

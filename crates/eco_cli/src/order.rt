@@ -4,8 +4,8 @@ ghost use Rattle.std.specs.Prelude.{◌≡◌, map, IfOk};
 ghost use Rattle.eco_cli.specs.ApplyCommand.{apply_of, IsOrder};
 
 use crate::apply_words::ApplyWords;
-use eco_base::OneGate;
-use eco_func::{Memory, Name};
+use eco_common::{Memory, Name};
+use eco_one_gate::OneGate;
 use std::alloc::Global;
 
 /// Copies of the words.

@@ -10,7 +10,8 @@ use crate::failure::Failure;
 use crate::host::Host;
 use crate::host_fault::HostFault;
 use crate::plan::{Plan, write_plan};
-use eco_text::{Failed, Sink};
+use eco_common::Failed;
+use eco_text::Sink;
 
 /// Writes the bytes of a plan to a sink, and finishes it.
 fn fill<K: Sink>(plan: &Plan, sink: &mut K) -> Result<(), Failed>

@@ -16,7 +16,8 @@ use crate::issued::Issued;
 use crate::move_words::move_words;
 use crate::moving::plan_move;
 use eco_base::{emit, emit_len};
-use eco_text::{Failed, Sink};
+use eco_common::Failed;
+use eco_text::Sink;
 use std::alloc::Global;
 
 /// What is to be written or told.

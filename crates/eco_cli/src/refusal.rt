@@ -1,7 +1,8 @@
 //! Why the texts of the inputs, or what is asked in them, are refused.
 
-use eco_base::{BaseFault, MoveFault, OneFault};
+use eco_base::{BaseFault, MoveFault};
 use eco_def::DefFault;
+use eco_one_gate::OneFault;
 
 /// Why a command refuses what it read.
 #[derive(Debug, Drop)]

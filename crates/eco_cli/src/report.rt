@@ -2,8 +2,7 @@
 
 ghost use Rattle.eco_cli.specs.CheckCommand.{IsReportOf};
 
-use eco_base::Base;
-use eco_opening::Census;
+use eco_base::{Base, Census};
 
 /// The numbers of a base.
 #[derive(Clone, Copy, Debug, Drop, PartialEq, Eq)]

@@ -2,7 +2,7 @@
 
 ghost use Rattle.std.specs.Prelude.{◌≡◌, ℕ, ◌≤◌, ◌⊎◌, map, string_bytes, Result, Ok, Err};
 ghost use Rattle.std.specs.Io.KnownBytes.{append_known};
-ghost use Rattle.eco_text.specs.Causes.{Rose};
+ghost use Rattle.eco_common.specs.Causes.{Rose};
 ghost use Rattle.eco_cli.specs.CommandLine.{HasReading};
 ghost use Rattle.eco_cli.specs.Commands.{options_of, job_of, IsBadWord};
 ghost use Rattle.eco_cli.specs.Opens.{Settled};

@@ -10,8 +10,10 @@ use crate::line::print_number;
 use crate::refusal::Refusal;
 use crate::report::Report;
 use crate::telling_base::{print_base, print_def};
-use eco_base::{MoveFault, OneFault};
-use eco_text::{Failed, Sink, write_piece, write_pieces};
+use eco_base::MoveFault;
+use eco_common::Failed;
+use eco_one_gate::OneFault;
+use eco_text::{Sink, write_piece, write_pieces};
 
 /// The eight lines of a report.
 fn print_report<O: Sink>(report: &Report, out: &mut O) -> Result<(), Failed>

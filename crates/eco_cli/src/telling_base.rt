@@ -7,11 +7,12 @@ ghost use Rattle.eco_cli.specs.Telling.{section_words, quote_place as place_of_q
 
 use crate::line::{print_number, print_parts, print_place, print_three, print_two};
 use eco_base::BaseFault;
+use eco_common::{Failed, Name};
 use eco_def::{DefFault, Section};
-use eco_func::{FuncFault, Name};
+use eco_func::FuncFault;
 use eco_lef::LefFault;
 use eco_net::Names;
-use eco_text::{Failed, Sink, TextFault, write_piece, write_pieces};
+use eco_text::{Sink, TextFault, write_piece, write_pieces};
 use itoa::Buffer;
 
 fn section_word(section: Section) -> &'static [u8]

@@ -8,8 +8,9 @@ use Rattle.std.proofs.Common.{◌≡◌, ℕ, Bool, true, false, ◌||◌, List,
 use Rattle.std.proofs.Math.Path.{fun_ext}
 use Rattle.std.proofs.lemmas.List.Folds.{list_any-append}
 use Rattle.eco_def.specs.declared.fault.DefFault.{DefFault}
-use Rattle.eco_def.specs.Known.{knows, Adds}
-use Rattle.eco_def.specs.Parsing.{Parser, is_among}
+use Rattle.eco_common.specs.KnownNames.{knows, Adds}
+use Rattle.eco_def.specs.Parsing.{Parser}
+use Rattle.eco_common.specs.NameBytes.{is_among}
 use Rattle.eco_def.specs.Reading.{Reading, Reads}
 
 or_if : (a b : Bool) → (if a then true else b) ≡ (b || (a || false))

@@ -10,10 +10,13 @@ mod Limited
 mod LimitedStatements
 mod LimitedParts
 mod SectionsOnce
+mod Quiet
 mod LimitLaws
+mod LimitPlaces
 pub mod Designs
 mod WholeText
 mod SpecialNets
 pub mod WalkOrder
 mod Examples
 pub mod NearJoints
+pub mod Walking

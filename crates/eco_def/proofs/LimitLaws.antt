@@ -1,14 +1,15 @@
 -- What limits keep: a text is read within them exactly where it has a design that keeps them.
-use Rattle.std.proofs.Common.{◌≡◌, inl, inr, ℕ, suc, List, [], length, Result, Ok, Err, refl, ap, sym, ◌∙◌, arith, not, codes}
+use Rattle.std.proofs.Common.{◌≡◌, inl, inr, ℕ, suc, Some, List, [], length, Result, Ok, Err, refl, ap, sym, ◌∙◌, arith, not, codes}
 use Rattle.eco_text.specs.Words.{Walk, walk_of}
 use Rattle.eco_def.specs.declared.fault.DefFault.{DefFault}
 use Rattle.eco_def.specs.declared.fault.DefFault.TheVariants.{Limit}
-use Rattle.eco_def.specs.Parsing.{◌>>=◌, then_read, give, is_word, many_until, size}
+use Rattle.eco_def.specs.Parsing.{◌>>=◌, then_read, give, many_until, size}
+use Rattle.eco_text.specs.Tokens.{is_word}
 use Rattle.eco_def.specs.Design.{Part, Design}
-use Rattle.eco_def.specs.Grammar.{have, part, parts, end_design, design_read, design_of}
-use Rattle.eco_def.specs.Limits.{joint_count, WithinLimits, parts_within, reading_of, LimitsKeep, FaultsStay}
+use Rattle.eco_def.specs.Grammar.{have, part, end_design, joint_count, whole_room, parts_within, parts, design_read, design_of, reading_of}
+use Rattle.eco_def.specs.Limits.{WithinLimits, LimitsKeep, FaultsStay, PartsKeep}
 use Rattle.eco_def.proofs.Limited.{Limited, Gives, gives_then, gives_give, gives_all, no_value}
-use Rattle.eco_def.proofs.LimitedParts.{PartsKeep, gives_fresh, limited_parts}
+use Rattle.eco_def.proofs.LimitedParts.{gives_fresh, limited_parts}
 use Rattle.eco_def.proofs.SectionsOnce.{Once, once_more, IsDesignOf, design_has}
 
 -- all parts up to END
@@ -16,7 +17,7 @@ all_once : Gives Once (many_until (is_word (codes "END")) part)
 all_once u = gives_all Part (λ w. not (is_word (codes "END") w)) part Once (λ before once v p w read. once_more before p once (gives_fresh (have before) v p w read)) (suc (size u)) [] (record { comps = refl; pins = refl; nets = refl; joints = refl }) u
 
 gives_once_all : Gives Once parts
-unfolding parts
+unfolding parts_within
 gives_once_all u qs v is = go (many_until (is_word (codes "END")) part u) (λ ps v read. all_once u ps v read) is
   where
     go : (r : Result (List Part × Walk) DefFault) → ((ps : List Part) (v : Walk) → r ≡ Ok (ps, v) → Once ps) → then_read r (λ ps. end_design >>= λ end. give ps) ≡ Ok (qs, v) → Once qs
@@ -82,10 +83,10 @@ stays r s fault (inl l) is none = ap design_read (sym l.0) ∙ is
 stays r s fault (inr l) is none = absurd (none l.0.0 (fault_is (Limit l.0.0) fault (ap design_read (sym l.0.1) ∙ is)))
 
 pub limits_kept : (text : List ℕ) (d : Design) → reading_of text ≡ Ok d → (design_of text ≡ Ok d) × WithinLimits d
-limits_kept text d is = kept (parts_within (walk_of text)) (parts (walk_of text)) d (limited_parts (walk_of text)) (λ ps v read. gives_once_all (walk_of text) ps v read) is
+limits_kept text d is = kept (parts_within (Some whole_room) (walk_of text)) (parts (walk_of text)) d (limited_parts (walk_of text)) (λ ps v read. gives_once_all (walk_of text) ps v read) is
 
 pub limits_law : LimitsKeep
-limits_law text d = (limits_kept text d, λ is. read_so (parts_within (walk_of text)) (parts (walk_of text)) d (limited_parts (walk_of text)) (λ ps v read. gives_once_all (walk_of text) ps v read) is.0 is.1)
+limits_law text d = (limits_kept text d, λ is. read_so (parts_within (Some whole_room) (walk_of text)) (parts (walk_of text)) d (limited_parts (walk_of text)) (λ ps v read. gives_once_all (walk_of text) ps v read) is.0 is.1)
 
 pub faults_law : FaultsStay
-faults_law text fault is none = stays (parts_within (walk_of text)) (parts (walk_of text)) fault (limited_parts (walk_of text)) is none
+faults_law text fault is none = stays (parts_within (Some whole_room) (walk_of text)) (parts (walk_of text)) fault (limited_parts (walk_of text)) is none

@@ -1,15 +1,17 @@
 -- Parts with limits beside those without.
 use Rattle.std.specs.List.{flat_map}
-use Rattle.std.proofs.Common.{◌≡◌, ℕ, suc, ◌+◌, ◌≤◌, Bool, true, false, not, ◌||◌, List, [], ◌∷◌, ◌++◌, length, Ok, refl, ap, sym, ◌∙◌, subst, arith, length-append, append-nil, append_assoc, codes, if◌then◌else◌}
+use Rattle.std.proofs.Common.{◌≡◌, ℕ, suc, ◌+◌, ◌≤◌, Bool, true, false, not, ◌||◌, List, [], ◌∷◌, ◌++◌, length, Some, Ok, refl, ap, sym, ◌∙◌, subst, arith, length-append, append-nil, append_assoc, codes, if◌then◌else◌}
 use Rattle.eco_text.specs.Words.{Walk}
 use Rattle.eco_def.specs.declared.fault.DefFault.TheVariants.{TwiceNamed, UnknownHeading}
 use Rattle.eco_def.specs.declared.room.Room.{Room}
-use Rattle.eco_def.specs.Parsing.{Parser, ◌>>=◌, give, any, refuse, is_word, word, valued, pass_to, pass_to_both, many, many_until, size}
+use Rattle.eco_def.specs.Parsing.{Parser, ◌>>=◌, give, any, refuse, word, valued, pass_to, pass_to_both, many, many_until, size}
+use Rattle.eco_text.specs.Tokens.{is_word}
 use Rattle.eco_def.specs.Design.{Comp, TopPin, Net, NetSection, Part, Passed, Units, Comps, Pins, Special, Nets}
-use Rattle.eco_def.specs.Grammar.{units, units_number, comp_section, comps, pin_section, top_pin, special_section, net_section, nets, section_head, section_end, passed_section, passed_up_to, Kind, CompKind, PinKind, SpecialKind, NetKind, kind_of, same_kind, have, once, part_new, part, end_design, parts}
-use Rattle.eco_def.specs.Limits.{most_statements, whole_room, room_behind, comp_section_within, pin_section_within, special_section_within, net_section_within, once_within, part_new_within, statements_of, room_of, part_within, parts_within}
+use Rattle.eco_def.specs.Grammar.{most_statements, whole_room, room_after, units, units_number, comp_section_within, comp_section, comps, pin_section_within, pin_section, top_pin, special_section_within, special_section, net_section_within, net_section, nets, section_head, section_end, passed_section, passed_up_to, Kind, CompKind, PinKind, SpecialKind, NetKind, kind_of, same_kind, have, once, part_new_within, part_new, statements_of, part_within, part, end_design, parts_within, parts}
+use Rattle.eco_def.specs.Sections.{room_of}
 use Rattle.eco_def.proofs.Limited.{Limited, same, refusing, as_well, then_before, Limits, limits_choose, all_limited, Gives, gives_then, gives_give, gives_choose, gives_refuse}
-use Rattle.eco_def.proofs.LimitedStatements.{AtMost, HaveRoom, limited_comp_section, limited_pin_section, limited_special_section, limited_net_section}
+use Rattle.eco_def.specs.Limits.{HaveRoom, comps_in, pins_in, PartsKeep}
+use Rattle.eco_def.proofs.LimitedStatements.{AtMost, limited_comp_section, limited_pin_section, limited_special_section, limited_net_section}
 use Rattle.eco_def.proofs.Rooms.{joint_count-append}
 use Rattle.eco_def.proofs.Parts.{statements_push}
 
@@ -47,30 +49,30 @@ gives_passed_up_to : (P : Part → Type 0) (keyword : List ℕ) → P Passed →
 gives_passed_up_to P keyword holds = gives_then P (pass_to (is_word keyword)) _ (λ end. gives_give P Passed holds)
 
 gives_comp_section : (P : Part → Type 0) → ((cs : List Comp) → P (Comps cs)) → Gives P comp_section
-unfolding comp_section
+unfolding comp_section_within
 gives_comp_section P each = gives_then P (section_head (codes "COMPONENTS")) _ (λ count. gives_then P comps _ (λ cs. gives_then P (section_end (codes "COMPONENTS")) _ (λ end. gives_give P (Comps cs) (each cs))))
 
 gives_pin_section : (P : Part → Type 0) → ((ps : List TopPin) → P (Pins ps)) → Gives P pin_section
-unfolding pin_section
+unfolding pin_section_within
 gives_pin_section P each = gives_then P (section_head (codes "PINS")) _ (λ count. gives_then P (many (is_word (codes "-")) top_pin) _ (λ ps. gives_then P (section_end (codes "PINS")) _ (λ end. gives_give P (Pins ps) (each ps))))
 
 gives_special_section : (P : Part → Type 0) → ((ns : List Net) → P (Special ns)) → Gives P special_section
-unfolding special_section
+unfolding special_section_within
 gives_special_section P each = gives_then P (section_head (codes "SPECIALNETS")) _ (λ count. gives_then P nets _ (λ ns. gives_then P (section_end (codes "SPECIALNETS")) _ (λ end. gives_give P (Special ns) (each ns))))
 
 gives_net_section : (P : Part → Type 0) → ((s : NetSection) → P (Nets s)) → Gives P net_section
-unfolding net_section
+unfolding net_section_within
 gives_net_section P each = gives_then P (section_head (codes "NETS")) _ (λ count. gives_then P nets _ (λ ns. gives_then P (section_end (codes "NETS")) _ (λ end. gives_give P _ (each (record { count = count; nets = ns; end = end })))))
 
 gives_once : (P : Part → Type 0) (seen : Kind → Bool) (kind : Kind) (section : Parser Part) → (seen kind ≡ false → Gives P section) → Gives P (once seen kind section)
 gives_once P seen kind section fresh u x v is = go (seen kind) refl is
   where
-    go : (b : Bool) → seen kind ≡ b → (if b then refuse TwiceNamed else section) u ≡ Ok (x, v) → P x
+    go : (b : Bool) → seen kind ≡ b → (if b then refuse TwiceNamed u else section u) ≡ Ok (x, v) → P x
     go true stood is = gives_refuse P TwiceNamed u x v is
     go false stood is = fresh stood u x v is
 
 pub gives_fresh : (seen : Kind → Bool) → Gives (Fresh seen) (part_new seen)
-unfolding part_new
+unfolding part_new_within
 gives_fresh seen =
     let P = Fresh seen in
     gives_choose P _ _ _ (gives_units P (λ n. tt))
@@ -83,53 +85,31 @@ gives_fresh seen =
     (gives_choose P _ _ _ (gives_passed_up_to P (codes "ENDEXT") tt)
     (gives_refuse P UnknownHeading))))))))
 
-limited_once : (P : Part → Type 0) (seen : Kind → Bool) (kind : Kind) (within section : Parser Part) → Limits P within section → Limits P (once_within (seen kind) within) (once seen kind section)
+limited_once : (P : Part → Type 0) (seen : Kind → Bool) (kind : Kind) (within section : Parser Part) → Limits P within section → Limits P (once seen kind within) (once seen kind section)
 limited_once P seen kind within section each u = go (seen kind)
   where
-    go : (b : Bool) → Limited P (if b then refuse TwiceNamed u else within u) ((if b then refuse TwiceNamed else section) u)
+    go : (b : Bool) → Limited P (if b then refuse TwiceNamed u else within u) (if b then refuse TwiceNamed u else section u)
     go true = refusing P TwiceNamed u
     go false = each u
 
 limits_same : (P : Part → Type 0) (p : Parser Part) → Gives P p → Limits P p p
 limits_same P p gives u = same P (p u) (gives u)
 
-limited_part : (seen : Kind → Bool) (room : Room) → Limits (PartKeeps room) (part_new_within seen room) (part_new seen)
-unfolding part_new_within part_new
+limited_part : (seen : Kind → Bool) (room : Room) → Limits (PartKeeps room) (part_new_within (Some room) seen) (part_new seen)
+unfolding part_new_within
 limited_part seen room =
     let P = PartKeeps room in
     limits_choose P _ _ _ _ _ (limits_same P units (gives_units P (λ n. tt)))
-    (limits_choose P _ _ _ _ _ (limited_once P seen CompKind comp_section_within comp_section (limited_comp_section P (λ cs fits. fits) (λ cs fits. fits)))
-    (limits_choose P _ _ _ _ _ (limited_once P seen PinKind pin_section_within pin_section (limited_pin_section P (λ ps fits. fits) (λ ps fits. fits)))
-    (limits_choose P _ _ _ _ _ (limited_once P seen SpecialKind (special_section_within room) special_section (limited_special_section P room (λ ns fits. fits) (λ ns fits. fits)))
-    (limits_choose P _ _ _ _ _ (limited_once P seen NetKind (net_section_within room) net_section (limited_net_section P room (λ s fits. fits) (λ s fits. fits)))
+    (limits_choose P _ _ _ _ _ (limited_once P seen CompKind (comp_section_within (Some most_statements)) comp_section (limited_comp_section P (λ cs fits. fits) (λ cs fits. fits)))
+    (limits_choose P _ _ _ _ _ (limited_once P seen PinKind (pin_section_within (Some most_statements)) pin_section (limited_pin_section P (λ ps fits. fits) (λ ps fits. fits)))
+    (limits_choose P _ _ _ _ _ (limited_once P seen SpecialKind (special_section_within (Some room)) special_section (limited_special_section P room (λ ns fits. fits) (λ ns fits. fits)))
+    (limits_choose P _ _ _ _ _ (limited_once P seen NetKind (net_section_within (Some room)) net_section (limited_net_section P room (λ s fits. fits) (λ s fits. fits)))
     (limits_choose P _ _ _ _ _ (limits_same P passed_section (gives_passed_section P tt))
     (limits_choose P _ _ _ _ _ (limits_same P (passed_up_to (codes ";")) (gives_passed_up_to P (codes ";") tt))
     (limits_choose P _ _ _ _ _ (limits_same P (passed_up_to (codes "ENDEXT")) (gives_passed_up_to P (codes "ENDEXT") tt))
     (λ u. refusing P UnknownHeading u))))))))
 
 -- ---- all parts
-
-abbrev pub comps_in : Part → List Comp
-comps_in Passed = []
-comps_in (Units n) = []
-comps_in (Comps cs) = cs
-comps_in (Pins ps) = []
-comps_in (Special ns) = []
-comps_in (Nets s) = []
-
-abbrev pub pins_in : Part → List TopPin
-pins_in Passed = []
-pins_in (Units n) = []
-pins_in (Comps cs) = []
-pins_in (Pins ps) = ps
-pins_in (Special ns) = []
-pins_in (Nets s) = []
-
--- the parts keep the limits together
-pub record PartsKeep (ps : List Part) : Type 0 where
-  pub comps : length (flat_map comps_in ps) ≤ most_statements
-  pub pins : length (flat_map pins_in ps) ≤ most_statements
-  pub nets : HaveRoom whole_room (flat_map statements_of ps)
 
 pub all_push : {A : Type 0} (f : Part → List A) (ps : List Part) (p : Part) → flat_map f (ps ++ p ∷ []) ≡ flat_map f ps ++ f p
 all_push f [] p = append-nil (f p)
@@ -138,13 +118,13 @@ all_push f (q ∷ ps) p = ap (λ k. f q ++ k) (all_push f ps p) ∙ sym (append_
 all_length : {A : Type 0} (f : Part → List A) (ps : List Part) (p : Part) → length (flat_map f (ps ++ p ∷ [])) ≡ length (flat_map f ps) + length (f p)
 all_length f ps p = ap length (all_push f ps p) ∙ length-append (flat_map f ps) (f p)
 
-room_both : (ms ns : List Net) → HaveRoom whole_room ms → HaveRoom (room_behind whole_room ms) ns → HaveRoom whole_room (ms ++ ns)
+room_both : (ms ns : List Net) → HaveRoom whole_room ms → HaveRoom (room_after whole_room ms) ns → HaveRoom whole_room (ms ++ ns)
 room_both ms ns first more =
     let long = length-append ms ns in
     let joined = joint_count-append ms ns in
     record { nets = omega (arith, long, first.nets, more.nets); joints = omega (arith, joined, first.joints, more.joints) }
 
-room_second : (ms ns : List Net) → HaveRoom whole_room (ms ++ ns) → HaveRoom (room_behind whole_room ms) ns
+room_second : (ms ns : List Net) → HaveRoom whole_room (ms ++ ns) → HaveRoom (room_after whole_room ms) ns
 room_second ms ns both =
     let long = length-append ms ns in
     let joined = joint_count-append ms ns in
@@ -193,7 +173,7 @@ pins_none (Pins ps) is = cc
 pins_none (Special ns) is = refl
 pins_none (Nets s) is = refl
 
--- a part that keeps the limits, behind parts that keep them
+-- a part that keeps the limits, after parts that keep them
 pub one_keeps : (before : List Part) (p : Part) → PartsKeep before → Fresh (have before) p → PartKeeps (room_of before) p → PartsKeep (before ++ p ∷ [])
 one_keeps before p keep fresh fits =
     let comps = all_length comps_in before p in
@@ -240,16 +220,19 @@ one_kept before (Pins ps) keep = let long = all_length pins_in before (Pins ps) 
 one_kept before (Special ns) keep = room_second (flat_map statements_of before) ns (subst (HaveRoom whole_room) (statements_push before (Special ns)) keep.nets)
 one_kept before (Nets s) keep = room_second (flat_map statements_of before) s.nets (subst (HaveRoom whole_room) (statements_push before (Nets s)) keep.nets)
 
-pub limited_parts : (u : Walk) → Limited PartsKeep (parts_within u) (parts u)
-unfolding parts_within parts
+pub limited_one : (before : List Part) (u : Walk) → PartsKeep before → Limited (λ p. PartsKeep (before ++ p ∷ [])) (part_within (Some whole_room) before u) (part before u)
+limited_one before u keep =
+    as_well (PartKeeps (room_of before)) (λ p. PartsKeep (before ++ p ∷ [])) (part_within (Some whole_room) before u) (part before u)
+    (λ p w is fits. one_keeps before p keep (gives_fresh (have before) u p w is) fits)
+    (λ p w is all. one_kept before p all)
+    (limited_part (have before) (room_of before) u)
+
+pub limited_parts : (u : Walk) → Limited PartsKeep (parts_within (Some whole_room) u) (parts u)
+unfolding parts_within
 limited_parts u =
-    then_before PartsKeep PartsKeep (many_until (is_word (codes "END")) part_within u) (many_until (is_word (codes "END")) part u) (λ ps. end_design >>= λ end. give ps)
+    then_before PartsKeep PartsKeep (many_until (is_word (codes "END")) (part_within (Some whole_room)) u) (many_until (is_word (codes "END")) part u) (λ ps. end_design >>= λ end. give ps)
     (λ ps v qs w is keep. gives_then PartsKeep end_design _ (λ end. gives_give PartsKeep ps keep) v qs w is)
     (λ ps v qs w is. gives_then (λ k. PartsKeep k → PartsKeep ps) end_design _ (λ end. gives_give (λ k. PartsKeep k → PartsKeep ps) ps (λ keep. keep)) v qs w is)
-    (all_limited Part (λ w. not (is_word (codes "END") w)) part_within part PartsKeep parts_fewer
-    (λ before v on keep.
-    as_well (PartKeeps (room_of before)) (λ p. PartsKeep (before ++ p ∷ [])) (part_within before v) (part before v)
-    (λ p w is fits. one_keeps before p keep (gives_fresh (have before) v p w is) fits)
-    (λ p w is all. one_kept before p all)
-    (limited_part (have before) (room_of before) v))
+    (all_limited Part (λ w. not (is_word (codes "END") w)) (part_within (Some whole_room)) part PartsKeep parts_fewer
+    (λ before v on keep. limited_one before v keep)
     (suc (size u)) [] u (record { comps = omega arith; pins = omega arith; nets = record { nets = omega arith; joints = omega arith } }))

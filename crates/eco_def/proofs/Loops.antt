@@ -2,7 +2,8 @@
 use Rattle.std.proofs.Common.{◌≡◌, ℕ, zero, suc, ◌≤◌, Bool, true, false, List, [], ◌∷◌, ◌++◌, map, Option, Some, None, Ok, Err, refl, ap, sym, subst, ◌∙◌, arith, if◌then◌else◌}
 use Rattle.std.specs.Option.{option_or, option_map}
 use Rattle.eco_text.specs.Words.{Token, Walk}
-use Rattle.eco_def.specs.Parsing.{Parser, then_read, begins, many, many_for, first_some, size}
+use Rattle.eco_def.specs.Parsing.{Parser, then_read, begins, many, many_for, size}
+use Rattle.eco_common.specs.Options.{first_some}
 use Rattle.eco_def.specs.declared.fault.DefFault.{DefFault}
 use Rattle.eco_def.specs.Reading.{Reading, left, Reads, IsInOrder}
 use Rattle.eco_def.proofs.PassedOver.{refuses_as}

@@ -1,4 +1,4 @@
--- Joints by their distances, one more behind the others.
+-- Joints by their distances, one more after the others.
 use Rattle.std.proofs.Common.{ℕ, suc, ◌+◌, ◌<◌, ◌≡◌, List, [], ◌∷◌, ◌++◌, length, take, get_or, refl, sym, ap, ◌∙◌}
 use Rattle.std.proofs.lemmas.List.{take_more}
 use Rattle.eco_def.specs.declared.design.Joint.{Joint}
@@ -25,7 +25,7 @@ unfolding joints_behind
 as_many from [] = refl
 as_many from (n ∷ ns) = ap suc (as_many (joint_behind from n).end ns)
 
--- one more of some joints is kept behind those before it
+-- one more of some joints is kept after those before it
 pub one_more_kept : (from : ℕ) (ns more : List NearJoint) (n : NearJoint) (js : List Joint) (i : ℕ) (d : Joint) (place : ℕ) →
     i < length js → more ≡ ns ++ n ∷ [] → joints_behind from ns ≡ take i js → place ≡ place_behind from ns → joint_behind place n ≡ get_or js i d →
     (joints_behind from more ≡ take (i + 1) js) × ((get_or js i d).end ≡ place_behind from more)

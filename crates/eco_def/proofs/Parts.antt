@@ -8,11 +8,10 @@ use Rattle.eco_def.specs.declared.part.Part.TheVariants.{Passed, Units, Comps, P
 use Rattle.eco_def.specs.declared.part.Sections.{Sections}
 use Rattle.eco_def.specs.declared.room.Room.{Room}
 use Rattle.eco_def.specs.Design as said
-use Rattle.eco_def.specs.Parsing.{first_some}
-use Rattle.eco_def.specs.Grammar.{Kind, CompKind, PinKind, SpecialKind, NetKind, NoKind, kind_of, same_kind, have, last_some, units_of, comps_of, pins_of, special_of, nets_of}
-use Rattle.eco_def.specs.Limits.{statements_of, room_behind, room_of, whole_room}
+use Rattle.eco_def.specs.Grammar.{Kind, CompKind, PinKind, SpecialKind, NetKind, NoKind, kind_of, same_kind, have, last_some, units_of, comps_of, pins_of, special_of, nets_of, statements_of, room_after, whole_room}
+use Rattle.eco_common.specs.Options.{first_some}
 use Rattle.eco_def.specs.View.{comp_in, pin_in, net_in}
-use Rattle.eco_def.specs.Sections.{AreOf, part_in, section_in, seen_in, with_part, room_less, IsFresh}
+use Rattle.eco_def.specs.Sections.{AreOf, room_of, part_in, section_in, seen_in, with_part, room_less, IsFresh}
 use Rattle.eco_def.proofs.Loops.{first_some-push, map_push}
 use Rattle.eco_def.proofs.Placing.{is_some-map}
 use Rattle.eco_def.proofs.Rooms.{behind_both, less_is}
@@ -51,12 +50,12 @@ statements_push [] p = append-nil (statements_of p)
 statements_push (q ∷ ps) p = ap (λ k. statements_of q ++ k) (statements_push ps p) ∙ sym (append_assoc (statements_of q) (flat_map statements_of ps) (statements_of p))
 
 room_stays : (ps : List said.Part) (p : said.Part) → statements_of p ≡ [] → room_of ps ≡ room_of (ps ++ p ∷ [])
-room_stays ps p none = ap (room_behind whole_room) (sym (statements_push ps p ∙ ap (λ k. flat_map statements_of ps ++ k) none ∙ append-nil (flat_map statements_of ps)))
+room_stays ps p none = ap (room_after whole_room) (sym (statements_push ps p ∙ ap (λ k. flat_map statements_of ps ++ k) none ∙ append-nil (flat_map statements_of ps)))
 
 room_goes : (text : List ℕ) (room : Room) (ps : List said.Part) (p : said.Part) (ss : List NetStatement) → room ≡ room_of ps → statements_of p ≡ map (net_in text) ss → room_less room ss ≡ room_of (ps ++ p ∷ [])
 room_goes text room ps p ss is has =
-    less_is text room ss ∙ ap (λ r. room_behind r (map (net_in text) ss)) is ∙ behind_both whole_room (flat_map statements_of ps) (map (net_in text) ss)
-    ∙ ap (λ k. room_behind whole_room (flat_map statements_of ps ++ k)) (sym has) ∙ ap (room_behind whole_room) (sym (statements_push ps p))
+    less_is text room ss ∙ ap (λ r. room_after r (map (net_in text) ss)) is ∙ behind_both whole_room (flat_map statements_of ps) (map (net_in text) ss)
+    ∙ ap (λ k. room_after whole_room (flat_map statements_of ps ++ k)) (sym has) ∙ ap (room_after whole_room) (sym (statements_push ps p))
 
 -- ---- one more part
 

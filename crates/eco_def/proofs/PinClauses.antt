@@ -2,7 +2,7 @@
 use Rattle.std.specs.Option.{option_or}
 use Rattle.std.proofs.Common.{◌≡◌, ℕ, Bool, true, false, List, [], ◌∷◌, ◌++◌, map, Option, Some, None, unwrap_or, Result, Ok, Err, refl, ap, sym, ◌∙◌, codes}
 use Rattle.eco_text.specs.Words.{Token, Walk}
-use Rattle.eco_text.specs.declared.geometry.Dir.TheVariants.{Inout}
+use Rattle.eco_common.specs.declared.geometry.Dir.TheVariants.{Inout}
 use Rattle.eco_def.specs.declared.fault.DefFault.{DefFault}
 use Rattle.eco_def.specs.declared.pin_clause.PinClause.{PinClause}
 use Rattle.eco_def.specs.declared.pin_clause.PinClauses.{PinClauses}
@@ -10,12 +10,15 @@ use Rattle.eco_def.specs.declared.design.TopPin.{TopPin}
 use Rattle.eco_def.specs.declared.fault.DefFault.TheVariants.{BadStatement}
 use Rattle.eco_def.specs.Design as said-design
 use Rattle.eco_def.specs.Grammar as said
-use Rattle.eco_def.specs.Limits.{pin_named}
+use Rattle.eco_def.specs.Grammar.{pin_named}
+use Rattle.eco_text.specs.Tokens.{is_one_of}
 use Rattle.eco_def.specs.Reading.{Reading, Reads, left}
 use Rattle.eco_text.specs.Cursor.{token}
 use Rattle.eco_text.specs.declared.word.Word.{Word}
 use Rattle.eco_def.proofs.PassedOver.{refuse_as, refuses_as, refused}
-use Rattle.eco_def.specs.Parsing.{first_some, then_read, begins, refuse, is_word, many_until}
+use Rattle.eco_common.specs.Options.{first_some}
+use Rattle.eco_def.specs.Parsing.{then_read, begins, refuse, many_until}
+use Rattle.eco_text.specs.Tokens.{is_word}
 use Rattle.eco_def.specs.View.{usage_in, pin_in}
 use Rattle.eco_def.specs.TopPins.{clause_in, net_given, dir_given, supply_given, AreKept, ReadsClauses}
 use Rattle.eco_def.proofs.Loops.{map_push, first_some-push}
@@ -58,7 +61,7 @@ supply_is (said.Other ∷ cs) = supply_is cs
 -- ---- the rest of a pin's statement
 
 abbrev either_mark : Token → Bool
-either_mark = said.is_one_of (codes "+" ∷ codes ";" ∷ [])
+either_mark = is_one_of (codes "+" ∷ codes ";" ∷ [])
 
 pub clauses_refused : (u : Walk) (e : DefFault) → begins either_mark u ≡ false → refuse {A = Token} BadStatement u ≡ Err e → said.pin_clauses u ≡ Err e
 unfolding said.pin_clauses

@@ -1,4 +1,4 @@
--- Where statements lie, one behind another.
+-- Where statements lie, one after another.
 use Rattle.std.proofs.Common.{◌≡◌, ℕ, ◌<◌, ◌≤◌, Bool, true, false, List, [], ◌∷◌, ◌++◌, Option, Some, None, is_some, refl, arith}
 use Rattle.std.specs.Option.{option_map}
 use Rattle.eco_text.specs.Words.{Walk, finished, open_quote, word_then}

@@ -1,11 +1,12 @@
 -- Each section stands once, so that the design has all that the parts have.
 use Rattle.std.specs.List.{flat_map}
 use Rattle.std.proofs.Common.{◌≡◌, ℕ, ◌+◌, false, List, [], ◌∷◌, ◌++◌, length, map, Option, Some, None, is_some, Ok, refl, ap, sym, ◌∙◌, arith, length-append, append-nil}
-use Rattle.eco_def.specs.Parsing.{first_some}
+use Rattle.eco_common.specs.Options.{first_some}
 use Rattle.eco_def.specs.Design.{Comp, Net, NetSection, Part, Passed, Units, Comps, Pins, Special, Nets, Design}
 use Rattle.eco_def.specs.Grammar.{Kind, CompKind, PinKind, SpecialKind, NetKind, kind_of, same_kind, have, units_of, comps_of, pins_of, special_of, nets_of, last_some, or_none, design_from, parts_design}
-use Rattle.eco_def.specs.Limits.{joint_count, statements_of}
-use Rattle.eco_def.proofs.LimitedParts.{Fresh, comps_in, pins_in, all_push}
+use Rattle.eco_def.specs.Grammar.{joint_count, statements_of}
+use Rattle.eco_def.specs.Limits.{comps_in, pins_in}
+use Rattle.eco_def.proofs.LimitedParts.{Fresh, all_push}
 use Rattle.eco_def.proofs.Rooms.{joint_count-append}
 use Rattle.eco_def.proofs.Parts.{statements_push, first_stays, first_comes, have_some, comps_kind, pins_kind, special_kind, nets_kind}
 

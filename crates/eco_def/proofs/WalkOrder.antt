@@ -1,4 +1,4 @@
--- The words of a text stand one behind another.
+-- The words of a text stand one after another.
 use Rattle.std.proofs.Common.{◌≡◌, ℕ, ◌+◌, ◌<◌, ◌==◌, ◌&&◌, not, Bool, true, false, List, [], ◌∷◌, ◌++◌, length, refl, sym, subst, arith}
 use Rattle.eco_text.specs.Words.{Token, Mode, between, comment, plain, quote, is_blank, plain_word, quoted_word, step, ends, walk, walk_of, ◌+++◌}
 use Rattle.eco_text.proofs.Stepping.{stepped}
@@ -59,6 +59,6 @@ in_order (b ∷ bs) comment p hi is began = from_comment p b hi bs (omega (arith
 in_order (b ∷ bs) (plain s w) p hi is began = from_plain s p b hi w bs (omega (arith, is)) began (in_order bs) (is_blank b) refl
 in_order (b ∷ bs) (quote e s w) p hi is began = from_quote e s p b hi w bs (omega (arith, is)) began (in_order bs) ((b == 34) && not e) refl
 
--- the words of a text lie within it, one behind another
+-- the words of a text lie within it, one after another
 pub words_in_order : (text : List ℕ) → IsInOrder 0 (length text) (walk_of text)
 words_in_order text = in_order text between 0 (length text) (omega arith) tt

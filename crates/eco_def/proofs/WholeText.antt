@@ -2,6 +2,7 @@
 use Rattle.std.specs.Option.{option_map}
 use Rattle.std.specs.List.{filter}
 use Rattle.std.proofs.Common.{◌≡◌, ◌⊎◌, inl, inr, ℕ, ◌≤◌, Bool, true, false, not, List, [], ◌++◌, length, map, Option, Some, None, IfOk, IfErr, IfSome, Result, Ok, Err, refl, ap, sym, ◌∙◌, subst, arith, append-nil, codes}
+use Rattle.eco_common.specs.declared.limits.TheConstants.{MAX_DEF_BYTES}
 use Rattle.eco_text.specs.Words.{Token, Walk, walk_of}
 use Rattle.eco_def.specs.declared.fault.DefFault.{DefFault}
 use Rattle.eco_def.specs.declared.fault.DefFault.TheVariants.{Memory}
@@ -11,9 +12,10 @@ use Rattle.eco_def.specs.declared.design.Comp.{Comp}
 use Rattle.eco_def.specs.declared.design.Design.{Design}
 use Rattle.eco_def.specs.declared.design.NetStatement.{NetStatement}
 use Rattle.eco_def.specs.Design as said
-use Rattle.eco_def.specs.Parsing.{◌>>=◌, then_read, give, is_word, many_until, first_some}
-use Rattle.eco_def.specs.Grammar.{end_design, last_some, or_none, units_of, comps_of, pins_of, special_of, nets_of, design_from, parts_design, design_read}
-use Rattle.eco_def.specs.Limits.{part_within, parts_within, reading_of}
+use Rattle.eco_def.specs.Parsing.{◌>>=◌, then_read, give, many_until}
+use Rattle.eco_def.specs.Grammar.{end_design, last_some, or_none, units_of, comps_of, pins_of, special_of, nets_of, design_from, parts_design, design_read, whole_room, part_within, parts_within, reading_of}
+use Rattle.eco_text.specs.Tokens.{is_word}
+use Rattle.eco_common.specs.Options.{first_some}
 use Rattle.eco_def.specs.View.{comp_in, pin_in, net_in, design_in}
 use Rattle.eco_def.specs.Reading.{Reading, left, IsInOrder, Refuses}
 use Rattle.eco_def.specs.Sections.{AreOf, section_in, IsOfSections, missing_of, both, SectionsLie, StatementsLie, AreSpecial, AreOrdinary, DesignLies, SpecialFirst, NetsFirst, IsReadingOf}
@@ -26,19 +28,19 @@ use Rattle.eco_def.proofs.Designs.{special_of_both, ordinary_of_both}
 use Rattle.eco_def.proofs.LimitLaws.{limits_kept}
 
 abbrev the_parts : Walk → Result (List said.Part × Walk) DefFault
-the_parts = many_until (is_word (codes "END")) part_within
+the_parts = many_until (is_word (codes "END")) (part_within (Some whole_room))
 
 -- ---- all parts and their end
 
-pub parts_stuck : (u : Walk) (e : DefFault) → Refuses (the_parts u) e → Refuses (parts_within u) e
+pub parts_stuck : (u : Walk) (e : DefFault) → Refuses (the_parts u) e → Refuses (parts_within (Some whole_room) u) e
 unfolding parts_within
-parts_stuck u e is = refuses_as (the_parts u) (parts_within u) e (λ k failed. ap (λ r. then_read r (λ ps. end_design >>= λ end. give ps)) failed) is
+parts_stuck u e is = refuses_as (the_parts u) (parts_within (Some whole_room) u) e (λ k failed. ap (λ r. then_read r (λ ps. end_design >>= λ end. give ps)) failed) is
 
-pub end_stuck : (u v : Walk) (ps : List said.Part) (e : DefFault) → the_parts u ≡ Ok (ps, v) → Refuses (end_design v) e → Refuses (parts_within u) e
+pub end_stuck : (u v : Walk) (ps : List said.Part) (e : DefFault) → the_parts u ≡ Ok (ps, v) → Refuses (end_design v) e → Refuses (parts_within (Some whole_room) u) e
 unfolding parts_within
-end_stuck u v ps e read is = refuses_as (end_design v) (parts_within u) e (λ k failed. ap (λ r. then_read r (λ ps. end_design >>= λ end. give ps)) read ∙ ap (λ r. then_read r (λ end. give ps)) failed) is
+end_stuck u v ps e read is = refuses_as (end_design v) (parts_within (Some whole_room) u) e (λ k failed. ap (λ r. then_read r (λ ps. end_design >>= λ end. give ps)) read ∙ ap (λ r. then_read r (λ end. give ps)) failed) is
 
-pub parts_read : (u v w : Walk) (ps : List said.Part) (end : Token) → the_parts u ≡ Ok (ps, v) → end_design v ≡ Ok (end, w) → parts_within u ≡ Ok (ps, w)
+pub parts_read : (u v w : Walk) (ps : List said.Part) (end : Token) → the_parts u ≡ Ok (ps, v) → end_design v ≡ Ok (end, w) → parts_within (Some whole_room) u ≡ Ok (ps, w)
 unfolding parts_within
 parts_read u v w ps end read ends = ap (λ r. then_read r (λ ps. end_design >>= λ end. give ps)) read ∙ ap (λ r. then_read r (λ end. give ps)) ends
 
@@ -97,14 +99,14 @@ lies_in text at s d is within (Some ss) some special ordinary false same lies =
 
 -- ---- the answer
 
-pub failed_answer : (text : List ℕ) (u : Walk) (e : DefFault) → u ≡ walk_of text → Refuses (parts_within u) e → Answers text (Err e)
-failed_answer text u e start is = refuses_as (parts_within u) (reading_of text) e (λ k failed. ap (λ v. design_read (parts_within v)) (sym start) ∙ ap design_read failed) is
+pub failed_answer : (text : List ℕ) (u : Walk) (e : DefFault) → u ≡ walk_of text → Refuses (parts_within (Some whole_room) u) e → Answers text (Err e)
+failed_answer text u e start is = refuses_as (parts_within (Some whole_room) u) (reading_of text) e (λ k failed. ap (λ v. design_read (parts_within (Some whole_room) v)) (sym start) ∙ ap design_read failed) is
 
-read_answer : (text : List ℕ) (old new : Reading) (s : Sections) (ps : List said.Part) (d : Design) → length text ≤ 134217728 → left old ≡ walk_of text → AreOf text s ps → parts_within (left old) ≡ Ok (ps, left new) → SectionsLie old new s → IsOfSections s d → IsReadingOf text d
+read_answer : (text : List ℕ) (old new : Reading) (s : Sections) (ps : List said.Part) (d : Design) → length text ≤ MAX_DEF_BYTES → left old ≡ walk_of text → AreOf text s ps → parts_within (Some whole_room) (left old) ≡ Ok (ps, left new) → SectionsLie old new s → IsOfSections s d → IsReadingOf text d
 read_answer text old new s ps d short start a read lie is =
     let special = special_or_none s.special lie.special in
     let ordinary : AreOrdinary is.ordinary = subst (λ o. IfSome o (λ ns. AreOrdinary ns.nets)) is.section lie.ordinary in
-    let gives : reading_of text ≡ Ok (design_in text d) = ap (λ u. design_read (parts_within u)) (sym start) ∙ ap design_read read ∙ design_is text s ps d is a special ordinary in
+    let gives : reading_of text ≡ Ok (design_in text d) = ap (λ u. design_read (parts_within (Some whole_room) u)) (sym start) ∙ ap design_read read ∙ design_is text s ps d is a special ordinary in
     let kept = limits_kept text (design_in text d) gives in
     let l = lie.lie 0 (length text) (subst (IsInOrder 0 (length text)) (sym start) (words_in_order text)) in
     record {
@@ -114,16 +116,16 @@ read_answer text old new s ps d short start a read lie is =
       lies = lies_in text l.0 s d is (room l.0 (length text) (left new) l.2) s.special refl special ordinary s.special_first refl (subst (λ o. StatementsLie s.special_first 0 l.0 s.special o) is.section l.1);
     }
 
-missing_answer : (text : List ℕ) (old new : Reading) (s : Sections) (ps : List said.Part) (e : DefFault) → left old ≡ walk_of text → AreOf text s ps → parts_within (left old) ≡ Ok (ps, left new) → (e ≡ Memory) ⊎ (missing_of s.units s.comps s.nets ≡ Some e) → Refuses (reading_of text) e
+missing_answer : (text : List ℕ) (old new : Reading) (s : Sections) (ps : List said.Part) (e : DefFault) → left old ≡ walk_of text → AreOf text s ps → parts_within (Some whole_room) (left old) ≡ Ok (ps, left new) → (e ≡ Memory) ⊎ (missing_of s.units s.comps s.nets ≡ Some e) → Refuses (reading_of text) e
 missing_answer text old new s ps e start a read (inl none) = rw none tt
 missing_answer text old new s ps e start a read (inr is) =
-    refused (reading_of text) e (ap (λ u. design_read (parts_within u)) (sym start) ∙ ap design_read read
+    refused (reading_of text) e (ap (λ u. design_read (parts_within (Some whole_room) u)) (sym start) ∙ ap design_read read
     ∙ ap (λ o. design_from ps o (first_some (map comps_of ps)) (first_some (map nets_of ps))) (sym a.units)
     ∙ ap (λ o. design_from ps s.units o (first_some (map nets_of ps))) (sym a.comps)
     ∙ ap (λ o. design_from ps s.units (option_map (λ cs. map (comp_in text) cs) s.comps) o) (sym a.nets)
     ∙ missing_is text ps s.units s.comps s.nets e is)
 
-pub answer : (text : List ℕ) (old new : Reading) (s : Sections) (ps : List said.Part) (r : Result Design DefFault) → length text ≤ 134217728 → old.text ≡ text → left old ≡ walk_of text → AreOf old.text s ps → parts_within (left old) ≡ Ok (ps, left new) → SectionsLie old new s →
+pub answer : (text : List ℕ) (old new : Reading) (s : Sections) (ps : List said.Part) (r : Result Design DefFault) → length text ≤ MAX_DEF_BYTES → old.text ≡ text → left old ≡ walk_of text → AreOf old.text s ps → parts_within (Some whole_room) (left old) ≡ Ok (ps, left new) → SectionsLie old new s →
     IfOk r (IsOfSections s) → IfErr r (λ e. (e ≡ Memory) ⊎ (missing_of s.units s.comps s.nets ≡ Some e)) → Answers text r
 answer text old new s ps (Ok d) short same start a read lie is missing = read_answer text old new s ps d short start (subst (λ t. AreOf t s ps) same a) read lie is
 answer text old new s ps (Err e) short same start a read lie is missing = missing_answer text old new s ps e start (subst (λ t. AreOf t s ps) same a) read missing

@@ -2,7 +2,7 @@
 -- LEF/DEF 5.8 Language Reference, "DEF Statement Definitions and Examples".
 use Rattle.std.specs.Prelude.{ℕ, Bool, List, Option}
 use Rattle.eco_text.specs.Words.{Token}
-use Rattle.eco_text.specs.declared.geometry.Dir.{Dir}
+use Rattle.eco_common.specs.declared.geometry.Dir.{Dir}
 use Rattle.eco_def.specs.declared.place.Place.{Place}
 
 -- COMPONENTS: a component, its macro, and where the lower left corner of its placed box lies
@@ -18,14 +18,14 @@ pub record TopPin : Type 0 where
   pub dir : Dir
   pub supply : Bool
 
--- NETS, SPECIALNETS: ( comp pin ), from its opening bracket to behind its closing one
+-- NETS, SPECIALNETS: ( comp pin ), from its opening bracket to after its closing one
 pub record Joint : Type 0 where
   pub comp : Token
   pub pin : Token
   pub start : ℕ
   pub end : ℕ
 
--- NETS, SPECIALNETS: a statement, from its - to behind its ;
+-- NETS, SPECIALNETS: a statement, from its - to after its ;
 pub record Net : Type 0 where
   pub name : Token
   pub start : ℕ

@@ -1,21 +1,27 @@
 -- The grammar of a design, over its words: LEF/DEF 5.8 Language Reference, "DEF Statement Definitions and Examples",
--- in the profile of docs/FORMATS.md.
-use Rattle.std.specs.Prelude.{ℕ, nat_le, Bool, true, false, List, [], ◌∷◌, map, Option, Some, None, is_some, option_and_then, Result, Ok, Err, if◌then◌else◌, codes}
+-- in the profile of docs/FORMATS.md. A reading may have a room: after as many components, top pins, net statements and
+-- joints as fit, the next one is the fault Limit, a statement at its name and a joint at its bracket. With no room there is no limit.
+use Rattle.std.specs.Prelude.{ℕ, ◌-◌, nat_le, nat_lt, Bool, true, false, List, [], ◌∷◌, length, map, sum_by, Option, Some, None, is_some, option_and_then, Result, Ok, Err, if◌then◌else◌, codes}
 use Rattle.std.specs.Str.{bytes_eq}
 use Rattle.std.specs.Option.{option_or}
 use Rattle.eco_text.specs.Numbers.{number_of, at_most, integer_of}
-use Rattle.std.specs.List.{list_any}
+use Rattle.std.specs.List.{list_any, flat_map}
+use Rattle.eco_text.specs.Tokens.{is_one_of}
 use Rattle.eco_text.specs.Words.{Token, Walk, finished, open_quote, word_then, walk_of}
 use Rattle.eco_text.specs.declared.word.TextFault.TheVariants.{OpenQuote}
 use Rattle.eco_def.specs.declared.fault.DefFault.{DefFault}
 use Rattle.eco_def.specs.declared.fault.DefFault.TheVariants.{Text, Unended, BadStatement, TwiceNamed, MustJoin, UnknownHeading, Missing}
 use Rattle.eco_def.specs.declared.fault.Section.TheVariants.{Units as NoUnits, Components as NoComponents, Nets as NoNets}
-use Rattle.eco_def.specs.Parsing.{Parser, ◌>>=◌, give, refuse, any, choose, is_word, word, name, new_name, is_among, valued, pass_to, pass_to_both, many, many_until, first_some}
-use Rattle.eco_text.specs.declared.geometry.Dir.{Dir}
-use Rattle.eco_text.specs.declared.geometry.Dir.TheVariants.{Input, Output, Inout}
+use Rattle.eco_def.specs.Parsing.{Parser, ◌>>=◌, give, refuse, any, choose, where_room, word, name, new_name_within, valued, pass_to, pass_to_both, many, many_until}
+use Rattle.eco_text.specs.Tokens.{is_word}
+use Rattle.eco_common.specs.NameBytes.{is_among}
+use Rattle.eco_common.specs.Options.{first_some}
+use Rattle.eco_common.specs.declared.geometry.Dir.{Dir}
+use Rattle.eco_common.specs.declared.geometry.Dir.TheVariants.{Input, Output, Inout}
 use Rattle.eco_def.specs.declared.orient.Orient.{Orient}
 use Rattle.eco_def.specs.declared.orient.Orient.TheVariants.{N, S, E, W, FN, FS, FE, FW}
 use Rattle.eco_def.specs.declared.place.Place.{Place}
+use Rattle.eco_def.specs.declared.room.Room.{Room}
 use Rattle.eco_def.specs.Design.{Comp, TopPin, Joint, Net, NetSection, Part, Passed, Units, Comps, Pins, Special, Nets, Design}
 
 -- ---- numbers
@@ -31,8 +37,48 @@ value_in (e ∷ es) bytes = if bytes_eq bytes e.0 then Some e.1 else value_in es
 
 -- ---- words
 
-abbrev pub is_one_of : List (List ℕ) → Token → Bool
-is_one_of keywords w = list_any (λ keyword. is_word keyword w) keywords
+-- ---- rooms
+
+-- the most components, top pins, and net statements of both sections together
+abbrev pub most_statements : ℕ
+most_statements = 1000000
+
+-- the most joints of both sections together
+abbrev pub most_joints : ℕ
+most_joints = 4000000
+
+abbrev pub whole_room : Room
+whole_room = record { nets = most_statements; joints = most_joints }
+
+abbrev pub joint_count : List Net → ℕ
+joint_count ns = sum_by (λ n. length n.joints) ns
+
+-- the room that some statements leave
+abbrev pub room_after : Room → List Net → Room
+room_after room ns = record { nets = room.nets - length ns; joints = room.joints - joint_count ns }
+
+abbrev pub room_left : Option Room → List Net → Option Room
+room_left None ns = None
+room_left (Some room) ns = Some (room_after room ns)
+
+-- whether one more fits after so many
+abbrev pub fits : Option ℕ → ℕ → Bool
+fits None n = true
+fits (Some most) n = nat_lt n most
+
+-- how many components, and how many top pins, may stand
+abbrev pub most_of : Option Room → Option ℕ
+most_of None = None
+most_of (Some room) = Some most_statements
+
+-- whether a net statement fits, and how many joints it may have
+abbrev pub net_fits : Option Room → Bool
+net_fits None = true
+net_fits (Some room) = nat_lt 0 room.nets
+
+abbrev pub joints_left : Option Room → Option ℕ
+joints_left None = None
+joints_left (Some room) = Some room.joints
 
 -- ---- components
 
@@ -63,18 +109,24 @@ comp_clause = choose (is_word (codes "+")) (any >>= λ plus. choose gives_place 
 unfoldable pub comp_place : Parser (Option Place)
 comp_place = many_until (is_word (codes ";")) (λ before. comp_clause) >>= λ clauses. give (first_some clauses)
 
-unfoldable pub comp_new : (List ℕ → Bool) → Parser Comp
-comp_new known = do
+unfoldable pub comp_new_within : Bool → (List ℕ → Bool) → Parser Comp
+comp_new_within room known = do
   dash ← word (codes "-")
-  n ← new_name known
+  n ← new_name_within room known
   model ← name
   at ← comp_place
   end ← word (codes ";")
   give (record { name = n; model = model; place = at })
 
+abbrev pub comp_new : (List ℕ → Bool) → Parser Comp
+comp_new = comp_new_within true
+
 -- a component whose name isn't among those before it
+abbrev pub comp_within : Option ℕ → List Comp → Parser Comp
+comp_within most before = comp_new_within (fits most (length before)) (is_among (map (λ c. c.name.bytes) before))
+
 abbrev pub comp : List Comp → Parser Comp
-comp before = comp_new (is_among (map (λ c. c.name.bytes) before))
+comp = comp_within None
 
 -- what a section begins with: its count
 unfoldable pub section_head : List ℕ → Parser Token
@@ -84,15 +136,21 @@ section_head keyword = word keyword >>= λ heading. any >>= λ count. word (code
 unfoldable pub section_end : List ℕ → Parser ℕ
 section_end keyword = word (codes "END") >>= λ end. word keyword >>= λ again. give end.start
 
-abbrev pub comps : Parser (List Comp)
-comps = many (is_word (codes "-")) comp
+abbrev pub comps_within : Option ℕ → Parser (List Comp)
+comps_within most = many (is_word (codes "-")) (comp_within most)
 
-unfoldable pub comp_section : Parser Part
-comp_section = do
+abbrev pub comps : Parser (List Comp)
+comps = comps_within None
+
+unfoldable pub comp_section_within : Option ℕ → Parser Part
+comp_section_within most = do
   count ← section_head (codes "COMPONENTS")
-  cs ← comps
+  cs ← comps_within most
   end ← section_end (codes "COMPONENTS")
   give (Comps cs)
+
+abbrev pub comp_section : Parser Part
+comp_section = comp_section_within None
 
 -- ---- top pins
 
@@ -139,7 +197,7 @@ supply_in (Directed d ∷ cs) = supply_in cs
 supply_in (Used b ∷ cs) = b
 supply_in (Other ∷ cs) = supply_in cs
 
--- what stands behind a pin's name: clauses up to the end
+-- what stands after a pin's name: clauses up to the end
 unfoldable pub pin_clauses : Parser (List PinClause)
 pin_clauses = choose (is_one_of (codes "+" ∷ codes ";" ∷ [])) (many_until (is_word (codes ";")) (λ before. pin_clause)) (refuse BadStatement)
 
@@ -148,28 +206,43 @@ abbrev pub pin_on : Token → List PinClause → Option Token → Parser TopPin
 pin_on n clauses None = refuse BadStatement
 pin_on n clauses (Some net) = give (record { name = n; net = net; dir = dir_in clauses; supply = supply_in clauses })
 
-unfoldable pub top_pin_new : (List ℕ → Bool) → Parser TopPin
-top_pin_new known = do
+-- a top pin, after its name
+unfoldable pub pin_named : Token → Parser TopPin
+pin_named n = pin_clauses >>= λ clauses. pin_on n clauses (net_in clauses)
+
+unfoldable pub top_pin_new_within : Bool → (List ℕ → Bool) → Parser TopPin
+top_pin_new_within room known = do
   dash ← word (codes "-")
-  n ← new_name known
-  clauses ← pin_clauses
-  pin ← pin_on n clauses (net_in clauses)
+  n ← new_name_within room known
+  pin ← pin_named n
   end ← word (codes ";")
   give pin
 
-abbrev pub top_pin : List TopPin → Parser TopPin
-top_pin before = top_pin_new (is_among (map (λ p. p.name.bytes) before))
+abbrev pub top_pin_new : (List ℕ → Bool) → Parser TopPin
+top_pin_new = top_pin_new_within true
 
-unfoldable pub pin_section : Parser Part
-pin_section = do
+abbrev pub top_pin_within : Option ℕ → List TopPin → Parser TopPin
+top_pin_within most before = top_pin_new_within (fits most (length before)) (is_among (map (λ p. p.name.bytes) before))
+
+abbrev pub top_pin : List TopPin → Parser TopPin
+top_pin = top_pin_within None
+
+abbrev pub top_pins_within : Option ℕ → Parser (List TopPin)
+top_pins_within most = many (is_word (codes "-")) (top_pin_within most)
+
+unfoldable pub pin_section_within : Option ℕ → Parser Part
+pin_section_within most = do
   count ← section_head (codes "PINS")
-  pins ← many (is_word (codes "-")) top_pin
+  pins ← top_pins_within most
   end ← section_end (codes "PINS")
   give (Pins pins)
 
+abbrev pub pin_section : Parser Part
+pin_section = pin_section_within None
+
 -- ---- nets
 
--- the ) of a joint, behind + SYNTHESIZED or not
+-- the ) of a joint, after + SYNTHESIZED or not
 unfoldable pub joint_end : Parser Token
 joint_end = choose (is_word (codes "+")) (word (codes "+") >>= λ plus. word (codes "SYNTHESIZED") >>= λ made. word (codes ")")) (word (codes ")"))
 
@@ -196,45 +269,69 @@ net_clause before = net_clause_new (is_some (first_some before))
 abbrev pub net_usage : Parser (Option Token)
 net_usage = many_until (is_word (codes ";")) net_clause >>= λ clauses. give (first_some clauses)
 
--- what stands behind a net's joints: clauses up to the end
+-- what stands after a net's joints: clauses up to the end
 unfoldable pub net_tail : Parser (Option Token)
 net_tail = choose (is_one_of (codes "+" ∷ codes ";" ∷ [])) net_usage (refuse BadStatement)
 
+abbrev pub net_name_within : Bool → (List ℕ → Bool) → Parser Token
+net_name_within room known = choose (is_word (codes "MUSTJOIN")) (refuse MustJoin) (new_name_within room known)
+
 abbrev pub net_name : (List ℕ → Bool) → Parser Token
-net_name known = choose (is_word (codes "MUSTJOIN")) (refuse MustJoin) (new_name known)
+net_name = net_name_within true
+
+abbrev pub joint_within : Option ℕ → List Joint → Parser Joint
+joint_within most before = where_room (fits most (length before)) joint
+
+abbrev pub joints_within : Option ℕ → Parser (List Joint)
+joints_within most = many (is_word (codes "(")) (joint_within most)
 
 abbrev pub joints : Parser (List Joint)
-joints = many (is_word (codes "(")) (λ before. joint)
+joints = joints_within None
 
-unfoldable pub net_new : (List ℕ → Bool) → Parser Net
-net_new known = do
+unfoldable pub net_new_within : Option Room → (List ℕ → Bool) → Parser Net
+net_new_within room known = do
   dash ← word (codes "-")
-  n ← net_name known
-  js ← joints
+  n ← net_name_within (net_fits room) known
+  js ← joints_within (joints_left room)
   usage ← net_tail
   end ← word (codes ";")
   give (record { name = n; start = dash.start; end = end.end; usage = usage; joints = js })
 
+abbrev pub net_new : (List ℕ → Bool) → Parser Net
+net_new = net_new_within None
+
 -- a statement of a net that has none before it in its section
+abbrev pub net_within : Option Room → List Net → Parser Net
+net_within room before = net_new_within (room_left room before) (is_among (map (λ s. s.name.bytes) before))
+
 abbrev pub net : List Net → Parser Net
-net before = net_new (is_among (map (λ s. s.name.bytes) before))
+net = net_within None
+
+abbrev pub nets_within : Option Room → Parser (List Net)
+nets_within room = many (is_word (codes "-")) (net_within room)
 
 abbrev pub nets : Parser (List Net)
-nets = many (is_word (codes "-")) net
+nets = nets_within None
 
-unfoldable pub special_section : Parser Part
-special_section = do
+unfoldable pub special_section_within : Option Room → Parser Part
+special_section_within room = do
   count ← section_head (codes "SPECIALNETS")
-  ns ← nets
+  ns ← nets_within room
   end ← section_end (codes "SPECIALNETS")
   give (Special ns)
 
-unfoldable pub net_section : Parser Part
-net_section = do
+abbrev pub special_section : Parser Part
+special_section = special_section_within None
+
+unfoldable pub net_section_within : Option Room → Parser Part
+net_section_within room = do
   count ← section_head (codes "NETS")
-  ns ← nets
+  ns ← nets_within room
   end ← section_end (codes "NETS")
   give (Nets (record { count = count; nets = ns; end = end }))
+
+abbrev pub net_section : Parser Part
+net_section = net_section_within None
 
 -- ---- the whole
 
@@ -289,22 +386,37 @@ have before kind = list_any (λ p. same_kind kind (kind_of p)) before
 
 -- a section that hasn't stood yet
 abbrev pub once : (Kind → Bool) → Kind → Parser Part → Parser Part
-once seen kind section = if seen kind then refuse TwiceNamed else section
+once seen kind section u = if seen kind then refuse TwiceNamed u else section u
 
-unfoldable pub part_new : (Kind → Bool) → Parser Part
-part_new seen =
+unfoldable pub part_new_within : Option Room → (Kind → Bool) → Parser Part
+part_new_within room seen =
     choose (is_word (codes "UNITS")) units
-    (choose (is_word (codes "COMPONENTS")) (once seen CompKind comp_section)
-    (choose (is_word (codes "PINS")) (once seen PinKind pin_section)
-    (choose (is_word (codes "SPECIALNETS")) (once seen SpecialKind special_section)
-    (choose (is_word (codes "NETS")) (once seen NetKind net_section)
+    (choose (is_word (codes "COMPONENTS")) (once seen CompKind (comp_section_within (most_of room)))
+    (choose (is_word (codes "PINS")) (once seen PinKind (pin_section_within (most_of room)))
+    (choose (is_word (codes "SPECIALNETS")) (once seen SpecialKind (special_section_within room))
+    (choose (is_word (codes "NETS")) (once seen NetKind (net_section_within room))
     (choose (is_one_of passed_sections) passed_section
     (choose (is_one_of passed_statements) (passed_up_to (codes ";"))
     (choose (is_word (codes "BEGINEXT")) (passed_up_to (codes "ENDEXT"))
     (refuse UnknownHeading))))))))
 
+abbrev pub part_new : (Kind → Bool) → Parser Part
+part_new = part_new_within None
+
+abbrev pub statements_of : Part → List Net
+statements_of Passed = []
+statements_of (Units n) = []
+statements_of (Comps cs) = []
+statements_of (Pins ps) = []
+statements_of (Special ns) = ns
+statements_of (Nets s) = s.nets
+
+-- a part that is no section which has stood, with the room that the statements of both sections leave
+abbrev pub part_within : Option Room → List Part → Parser Part
+part_within room before = part_new_within (room_left room (flat_map statements_of before)) (have before)
+
 abbrev pub part : List Part → Parser Part
-part before = part_new (have before)
+part = part_within None
 
 -- END DESIGN, of which a fault stands at END where another word follows it
 abbrev pub end_design : Parser Token
@@ -312,8 +424,11 @@ end_design (finished place) = Err (Unended place)
 end_design (open_quote place) = Err (Text (OpenQuote place))
 end_design (word_then end u) = choose (is_word (codes "DESIGN")) any (λ v. refuse (λ place. UnknownHeading end.start) v) u
 
-unfoldable pub parts : Parser (List Part)
-parts = many_until (is_word (codes "END")) part >>= λ ps. end_design >>= λ end. give ps
+unfoldable pub parts_within : Option Room → Parser (List Part)
+parts_within room = many_until (is_word (codes "END")) (part_within room) >>= λ ps. end_design >>= λ end. give ps
+
+abbrev pub parts : Parser (List Part)
+parts = parts_within None
 
 -- ---- the design of the parts
 
@@ -360,6 +475,14 @@ abbrev pub design_read : Result (List Part × Walk) DefFault → Result Design D
 design_read (Err e) = Err e
 design_read (Ok x) = parts_design x.0
 
--- the design of a text, or its first fault, whatever follows END DESIGN
+-- the design of a text in a room, or its first fault, whatever follows END DESIGN
+abbrev pub design_within : Option Room → List ℕ → Result Design DefFault
+design_within room text = design_read (parts_within room (walk_of text))
+
+-- what the text says
 abbrev pub design_of : List ℕ → Result Design DefFault
-design_of text = design_read (parts (walk_of text))
+design_of = design_within None
+
+-- what a reader with limits reads
+abbrev pub reading_of : List ℕ → Result Design DefFault
+reading_of = design_within (Some whole_room)

@@ -4,7 +4,6 @@ pub mod Grammar
 pub mod Limits
 pub mod View
 pub mod Reading
-pub mod Known
 pub mod TopPins
 pub mod Sections
 pub mod Answers

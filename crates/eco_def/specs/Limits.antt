@@ -1,170 +1,103 @@
--- The grammar of a design for a reader with limits: where as many have stood as may, the next is Limit, a statement at its name
--- and a joint at its bracket. All else is as in the grammar without limits.
-use Rattle.std.specs.Prelude.{◌≡◌, ℕ, ◌+◌, ◌-◌, ◌≤◌, nat_lt, Bool, List, [], length, map, sum_by, Result, Ok, Err, ◌↔◌, if◌then◌else◌, codes}
+-- What the limits of a reader change: a design is read where it keeps them, and else the first statement or joint above them is Limit.
+use Rattle.std.specs.Prelude.{◌≡◌, ℕ, zero, suc, ◌+◌, ◌<◌, ◌≤◌, Bool, false, List, [], ◌∷◌, ◌++◌, length, map, Ok, Err, ◌↔◌, codes}
 use Rattle.std.specs.List.{flat_map}
-use Rattle.eco_text.specs.Words.{Token, walk_of}
+use Rattle.eco_text.specs.Words.{Token, Walk, walk_of}
 use Rattle.eco_def.specs.declared.fault.DefFault.{DefFault}
-use Rattle.eco_def.specs.declared.fault.DefFault.TheVariants.{BadStatement, TwiceNamed, MustJoin, UnknownHeading, Limit}
+use Rattle.eco_def.specs.declared.fault.DefFault.TheVariants.{Limit}
 use Rattle.eco_def.specs.declared.room.Room.{Room}
-use Rattle.eco_def.specs.Parsing.{Parser, ◌>>=◌, give, refuse, any, choose, is_word, word, is_name, name, is_among, many, many_until}
-use Rattle.eco_def.specs.Design.{Comp, TopPin, Joint, Net, Part, Passed, Units, Comps, Pins, Special, Nets, Design}
-use Rattle.eco_def.specs.Grammar.{is_one_of, comp_place, section_head, section_end, pin_clauses, pin_on, net_in, joint, net_tail, units, passed_sections, passed_statements, passed_section, passed_up_to, Kind, CompKind, PinKind, SpecialKind, NetKind, have, end_design, design_read, design_of}
-
--- ---- the limits
-
--- components, top pins, and net statements of both sections together
-abbrev pub most_statements : ℕ
-most_statements = 1000000
-
--- joints of both sections together
-abbrev pub most_joints : ℕ
-most_joints = 4000000
-
-abbrev pub joint_count : List Net → ℕ
-joint_count ns = sum_by (λ n. length n.joints) ns
+use Rattle.eco_def.specs.Parsing.{Parser, ◌>>=◌, then_read, word, new_name}
+use Rattle.eco_common.specs.NameBytes.{is_among}
+use Rattle.eco_def.specs.Design.{Comp, TopPin, Joint, Net, Part, Comps, Pins, Design}
+use Rattle.eco_def.specs.Grammar.{most_statements, most_joints, whole_room, joint_count as joints_of, section_head, comp, top_pin, joint, net_name, net, CompKind, PinKind, SpecialKind, NetKind, have, statements_of, part, design_of, reading_of}
 
 pub record WithinLimits (d : Design) : Type 0 where
   pub comps : length d.comps ≤ most_statements
   pub pins : length d.pins ≤ most_statements
   pub nets : length d.special + length d.nets.nets ≤ most_statements
-  pub joints : joint_count d.special + joint_count d.nets.nets ≤ most_joints
+  pub joints : joints_of d.special + joints_of d.nets.nets ≤ most_joints
 
-abbrev pub whole_room : Room
-whole_room = record { nets = most_statements; joints = most_joints }
-
--- the room that some statements leave
-abbrev pub room_behind : Room → List Net → Room
-room_behind room ns = record { nets = room.nets - length ns; joints = room.joints - joint_count ns }
-
-abbrev pub where_room : {A : Type 0} → Bool → Parser A → Parser A
-where_room room p u = if room then p u else refuse Limit u
-
--- ---- the grammar
-
-abbrev pub new_name_within : Bool → (List ℕ → Bool) → Parser Token
-new_name_within room known = choose is_name (choose (λ w. known w.bytes) (refuse TwiceNamed) (where_room room any)) (refuse BadStatement)
-
-unfoldable pub comp_new_within : Bool → (List ℕ → Bool) → Parser Comp
-comp_new_within room known = do
-  dash ← word (codes "-")
-  n ← new_name_within room known
-  model ← name
-  at ← comp_place
-  end ← word (codes ";")
-  give (record { name = n; model = model; place = at })
-
-abbrev pub comp_within : List Comp → Parser Comp
-comp_within before = comp_new_within (nat_lt (length before) most_statements) (is_among (map (λ c. c.name.bytes) before))
-
-unfoldable pub comp_section_within : Parser Part
-comp_section_within = do
-  count ← section_head (codes "COMPONENTS")
-  cs ← many (is_word (codes "-")) comp_within
-  end ← section_end (codes "COMPONENTS")
-  give (Comps cs)
-
--- a top pin, behind its name
-unfoldable pub pin_named : Token → Parser TopPin
-pin_named n = pin_clauses >>= λ clauses. pin_on n clauses (net_in clauses)
-
-unfoldable pub top_pin_new_within : Bool → (List ℕ → Bool) → Parser TopPin
-top_pin_new_within room known = do
-  dash ← word (codes "-")
-  n ← new_name_within room known
-  pin ← pin_named n
-  end ← word (codes ";")
-  give pin
-
-abbrev pub top_pin_within : List TopPin → Parser TopPin
-top_pin_within before = top_pin_new_within (nat_lt (length before) most_statements) (is_among (map (λ p. p.name.bytes) before))
-
-unfoldable pub pin_section_within : Parser Part
-pin_section_within = do
-  count ← section_head (codes "PINS")
-  pins ← many (is_word (codes "-")) top_pin_within
-  end ← section_end (codes "PINS")
-  give (Pins pins)
-
-abbrev pub joint_within : ℕ → List Joint → Parser Joint
-joint_within room before = where_room (nat_lt (length before) room) joint
-
-abbrev pub joints_within : ℕ → Parser (List Joint)
-joints_within room = many (is_word (codes "(")) (joint_within room)
-
-abbrev pub net_name_within : Bool → (List ℕ → Bool) → Parser Token
-net_name_within room known = choose (is_word (codes "MUSTJOIN")) (refuse MustJoin) (new_name_within room known)
-
-unfoldable pub net_new_within : Room → (List ℕ → Bool) → Parser Net
-net_new_within room known = do
-  dash ← word (codes "-")
-  n ← net_name_within (nat_lt 0 room.nets) known
-  js ← joints_within room.joints
-  usage ← net_tail
-  end ← word (codes ";")
-  give (record { name = n; start = dash.start; end = end.end; usage = usage; joints = js })
-
-abbrev pub net_within : Room → List Net → Parser Net
-net_within room before = net_new_within (room_behind room before) (is_among (map (λ s. s.name.bytes) before))
-
-abbrev pub nets_within : Room → Parser (List Net)
-nets_within room = many (is_word (codes "-")) (net_within room)
-
-unfoldable pub special_section_within : Room → Parser Part
-special_section_within room = do
-  count ← section_head (codes "SPECIALNETS")
-  ns ← nets_within room
-  end ← section_end (codes "SPECIALNETS")
-  give (Special ns)
-
-unfoldable pub net_section_within : Room → Parser Part
-net_section_within room = do
-  count ← section_head (codes "NETS")
-  ns ← nets_within room
-  end ← section_end (codes "NETS")
-  give (Nets (record { count = count; nets = ns; end = end }))
-
--- a section that hasn't stood yet
-abbrev pub once_within : Bool → Parser Part → Parser Part
-once_within stood section u = if stood then refuse TwiceNamed u else section u
-
-unfoldable pub part_new_within : (Kind → Bool) → Room → Parser Part
-part_new_within seen room =
-    choose (is_word (codes "UNITS")) units
-    (choose (is_word (codes "COMPONENTS")) (once_within (seen CompKind) comp_section_within)
-    (choose (is_word (codes "PINS")) (once_within (seen PinKind) pin_section_within)
-    (choose (is_word (codes "SPECIALNETS")) (once_within (seen SpecialKind) (special_section_within room))
-    (choose (is_word (codes "NETS")) (once_within (seen NetKind) (net_section_within room))
-    (choose (is_one_of passed_sections) passed_section
-    (choose (is_one_of passed_statements) (passed_up_to (codes ";"))
-    (choose (is_word (codes "BEGINEXT")) (passed_up_to (codes "ENDEXT"))
-    (refuse UnknownHeading))))))))
-
-abbrev pub statements_of : Part → List Net
-statements_of Passed = []
-statements_of (Units n) = []
-statements_of (Comps cs) = []
-statements_of (Pins ps) = []
-statements_of (Special ns) = ns
-statements_of (Nets s) = s.nets
-
--- the room that the statements of both sections have left
-abbrev pub room_of : List Part → Room
-room_of before = room_behind whole_room (flat_map statements_of before)
-
-abbrev pub part_within : List Part → Parser Part
-part_within before = part_new_within (have before) (room_of before)
-
-unfoldable pub parts_within : Parser (List Part)
-parts_within = many_until (is_word (codes "END")) part_within >>= λ ps. end_design >>= λ end. give ps
-
--- what a reader with limits reads: the design of a text, or its first fault
-abbrev pub reading_of : List ℕ → Result Design DefFault
-reading_of text = design_read (parts_within (walk_of text))
-
--- A law: such a reader reads the designs that keep the limits, as they are without limits.
+-- A law: a reader with limits reads the designs that keep them, as they are without limits.
 abbrev pub LimitsKeep : Type 0
 LimitsKeep = (text : List ℕ) (d : Design) → (reading_of text ≡ Ok d) ↔ ((design_of text ≡ Ok d) × WithinLimits d)
 
 -- A law: each of its faults but Limit is the first fault of the text.
 abbrev pub FaultsStay : Type 0
 FaultsStay = (text : List ℕ) (fault : DefFault) → reading_of text ≡ Err fault → ((place : ℕ) → fault ≡ Limit place → ⊥) → design_of text ≡ Err fault
+
+-- ---- where Limit stands
+
+-- the first n values, one after another
+abbrev pub first_values : {A : Type 0} → ℕ → (List A → Parser A) → List A → Parser (List A)
+first_values zero item xs u = Ok (xs, u)
+first_values (suc n) item xs u = then_read (item xs u) (λ x. first_values n item (xs ++ x ∷ []))
+
+-- The first statements of a section are read without fault, and are as many as may stand. The place is that of the next one's name.
+pub record NameAbove {A : Type 0} (heading : List ℕ) (item : List A → Parser A) (named : (List ℕ → Bool) → Parser Token) (key : A → List ℕ) (IsFull : List A → Type 0) (u : Walk) (place : ℕ) : Type 0 where
+  pub count : ℕ
+  pub before : List A
+  pub at : Walk
+  pub name : Token
+  pub rest : Walk
+  pub read : (section_head heading >>= λ head. first_values count item []) u ≡ Ok (before, at)
+  pub full : IsFull before
+  pub next : (word (codes "-") >>= λ dash. named (is_among (map key before))) at ≡ Ok (name, rest)
+  pub here : name.start ≡ place
+
+-- The first statements of a section, a net's name and its first joints are read without fault, and with the statements of the other
+-- section there are as many joints as may stand. The place is that of the next joint's bracket.
+pub record JointAbove (heading : List ℕ) (earlier : List Net) (u : Walk) (place : ℕ) : Type 0 where
+  pub count : ℕ
+  pub before : List Net
+  pub at : Walk
+  pub name : Token
+  pub inside : Walk
+  pub many : ℕ
+  pub joints : List Joint
+  pub end : Walk
+  pub bracket : Token
+  pub rest : Walk
+  pub read : (section_head heading >>= λ head. first_values count net []) u ≡ Ok (before, at)
+  pub fits : length (earlier ++ before) < most_statements
+  pub named : (word (codes "-") >>= λ dash. net_name (is_among (map (λ s. s.name.bytes) before))) at ≡ Ok (name, inside)
+  pub joined : first_values many (λ js. joint) [] inside ≡ Ok (joints, end)
+  pub full : joints_of (earlier ++ before) + length joints ≡ most_joints
+  pub next : word (codes "(") end ≡ Ok (bracket, rest)
+  pub here : bracket.start ≡ place
+
+-- the net statements are as many as may stand, and have no more joints than may
+abbrev pub NetsFull : List Net → List Net → Type 0
+NetsFull earlier ns = (length (earlier ++ ns) ≡ most_statements) × (joints_of (earlier ++ ns) ≤ most_joints)
+
+-- after these parts comes a section with the first statement or joint above a limit, at the place
+pub data IsAbove (ps : List Part) (u : Walk) (place : ℕ) : Type 0 where
+  CompAbove : have ps CompKind ≡ false → NameAbove (codes "COMPONENTS") comp new_name (λ c. c.name.bytes) (λ cs. length cs ≡ most_statements) u place → IsAbove ps u place
+  PinAbove : have ps PinKind ≡ false → NameAbove (codes "PINS") top_pin new_name (λ p. p.name.bytes) (λ pins. length pins ≡ most_statements) u place → IsAbove ps u place
+  SpecialNetAbove : have ps SpecialKind ≡ false → NameAbove (codes "SPECIALNETS") net net_name (λ s. s.name.bytes) (NetsFull (flat_map statements_of ps)) u place → IsAbove ps u place
+  NetAbove : have ps NetKind ≡ false → NameAbove (codes "NETS") net net_name (λ s. s.name.bytes) (NetsFull (flat_map statements_of ps)) u place → IsAbove ps u place
+  SpecialJointAbove : have ps SpecialKind ≡ false → JointAbove (codes "SPECIALNETS") (flat_map statements_of ps) u place → IsAbove ps u place
+  NetJointAbove : have ps NetKind ≡ false → JointAbove (codes "NETS") (flat_map statements_of ps) u place → IsAbove ps u place
+
+-- the components, and the top pins, of a part
+abbrev pub comps_in : Part → List Comp
+comps_in (Comps cs) = cs
+comps_in _ = []
+
+abbrev pub pins_in : Part → List TopPin
+pins_in (Pins ps) = ps
+pins_in _ = []
+
+-- statements that fit into a room
+pub record HaveRoom (room : Room) (ns : List Net) : Type 0 where
+  pub nets : length ns ≤ room.nets
+  pub joints : joints_of ns ≤ room.joints
+
+-- parts that keep the limits
+pub record PartsKeep (ps : List Part) : Type 0 where
+  pub comps : length (flat_map comps_in ps) ≤ most_statements
+  pub pins : length (flat_map pins_in ps) ≤ most_statements
+  pub nets : HaveRoom whole_room (flat_map statements_of ps)
+
+-- A law: Limit stands at the name of the first component, top pin or net statement above a limit, or at the bracket of the first joint
+-- above it. All before it keeps the limits and is read without fault.
+abbrev pub LimitStands : Type 0
+LimitStands = (text : List ℕ) (place : ℕ) → reading_of text ≡ Err (Limit place) → (n : ℕ) × (ps : List Part) × (u : Walk) × (first_values n part [] (walk_of text) ≡ Ok (ps, u)) × PartsKeep ps × IsAbove ps u place

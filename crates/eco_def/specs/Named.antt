@@ -1,7 +1,7 @@
 -- A design by its names, wherever they stand.
 use Rattle.std.specs.Prelude.{ℕ, Bool, List, map, Option}
 use Rattle.std.specs.Option.{option_map}
-use Rattle.eco_text.specs.declared.geometry.Dir.{Dir}
+use Rattle.eco_common.specs.declared.geometry.Dir.{Dir}
 use Rattle.eco_def.specs.declared.place.Place.{Place}
 use Rattle.eco_def.specs.Design.{Comp, TopPin, Joint, Net, Design}
 

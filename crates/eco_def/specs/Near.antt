@@ -1,10 +1,10 @@
--- Joints by the distances of their words, one behind the other. Places are below 2^32.
+-- Joints by the distances of their words, one after the other. Places are below 2^32.
 use Rattle.std.specs.Prelude.{ℕ, ◌+◌, ◌^◌, ◌%◌, false, List, [], ◌∷◌}
 use Rattle.eco_text.specs.declared.word.Word.{Word}
 use Rattle.eco_def.specs.declared.design.Joint.{Joint}
 use Rattle.eco_def.specs.declared.near.NearJoint.{NearJoint}
 
--- the place so far behind another
+-- the place so far after another
 abbrev pub onward : ℕ → ℕ → ℕ
 onward from distance = (from + distance) % (2 ^ 32)
 

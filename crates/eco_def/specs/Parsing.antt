@@ -1,13 +1,14 @@
--- Reading words from left to right: a value and the words behind it, or the first fault.
-use Rattle.std.specs.Prelude.{ℕ, zero, suc, ◌==◌, nat_le, ◌&&◌, ◌||◌, not, Bool, false, List, [], ◌∷◌, ◌++◌, length, Option, Some, None, Result, Ok, Err, if◌then◌else◌}
+-- Reading words from left to right: a value and the words after it, or the first fault.
+use Rattle.std.specs.Prelude.{ℕ, zero, suc, ◌==◌, nat_le, ◌&&◌, ◌||◌, not, Bool, true, false, List, [], ◌∷◌, ◌++◌, length, Option, Some, None, Result, Ok, Err, if◌then◌else◌}
 use Rattle.std.specs.List.{list_all, list_any}
 use Rattle.std.specs.Str.{bytes_eq, byte}
+use Rattle.eco_text.specs.Tokens.{is_word, is_name}
 use Rattle.eco_text.specs.Words.{Token, Walk, finished, open_quote, word_then}
 use Rattle.eco_text.specs.declared.word.TextFault.TheVariants.{OpenQuote}
 use Rattle.eco_def.specs.declared.fault.DefFault.{DefFault}
-use Rattle.eco_def.specs.declared.fault.DefFault.TheVariants.{Text, Unended, BadStatement, TwiceNamed}
+use Rattle.eco_def.specs.declared.fault.DefFault.TheVariants.{Text, Unended, BadStatement, TwiceNamed, Limit}
 
--- what reads a value: the value and the words behind it, or the first fault
+-- what reads a value: the value and the words after it, or the first fault
 abbrev pub Parser : Type 0 → Type 0
 Parser A = Walk → Result (A × Walk) DefFault
 
@@ -49,36 +50,22 @@ choose p yes' no' u = if begins p u then yes' u else no' u
 abbrev pub next : (Token → Bool) → Parser Token
 next p = choose p any (refuse BadStatement)
 
--- the word is this one, and not quoted
-abbrev pub is_word : List ℕ → Token → Bool
-is_word keyword w = not w.quoted && bytes_eq w.bytes keyword
-
 abbrev pub word : List ℕ → Parser Token
 word keyword = next (is_word keyword)
-
--- a byte that a name may have
-abbrev pub is_name_byte : ℕ → Bool
-is_name_byte b = nat_le 33 b && nat_le b 126
-
--- one of the five words that stand for themselves: ; ( ) + -
-abbrev pub is_mark : List ℕ → Bool
-is_mark [] = false
-is_mark (b ∷ []) = b == byte ";" || b == byte "(" || b == byte ")" || b == byte "+" || b == byte "-"
-is_mark (b ∷ c ∷ bs) = false
-
-abbrev pub is_name : Token → Bool
-is_name w = not w.quoted && not (is_mark w.bytes) && nat_le (length w.bytes) 1024 && list_all is_name_byte w.bytes
 
 abbrev pub name : Parser Token
 name = next is_name
 
--- the bytes are one of these names
-abbrev pub is_among : List (List ℕ) → List ℕ → Bool
-is_among names bytes = list_any (λ n. bytes_eq n bytes) names
+-- a reading for which there is room; where there is none, the fault is Limit
+abbrev pub where_room : {A : Type 0} → Bool → Parser A → Parser A
+where_room room p u = if room then p u else refuse Limit u
 
--- a name that isn't known yet
+-- a name that isn't known yet, and for which there is room
+abbrev pub new_name_within : Bool → (List ℕ → Bool) → Parser Token
+new_name_within room known = choose is_name (choose (λ w. known w.bytes) (refuse TwiceNamed) (where_room room any)) (refuse BadStatement)
+
 abbrev pub new_name : (List ℕ → Bool) → Parser Token
-new_name known = choose is_name (choose (λ w. known w.bytes) (refuse TwiceNamed) any) (refuse BadStatement)
+new_name = new_name_within true
 
 -- the bytes of the next word, and none where there is none
 abbrev pub bytes_ahead : Walk → List ℕ
@@ -100,7 +87,7 @@ pass_to p (finished place) = Err (Unended place)
 pass_to p (open_quote place) = Err (Text (OpenQuote place))
 pass_to p (word_then w u) = if p w then Ok (w, u) else pass_to p u
 
--- the words up to one that passes the first test and one that passes the second behind it, and those two
+-- the words up to one that passes the first test and one that passes the second after it, and those two
 abbrev pub pass_to_both : (Token → Bool) → (Token → Bool) → Parser Token
 pass_to_both p q (finished place) = Err (Unended place)
 pass_to_both p q (open_quote place) = Err (Text (OpenQuote place))
@@ -123,9 +110,3 @@ many goes item u = many_for (suc (size u)) goes item [] u
 -- values one after another up to a word
 abbrev pub many_until : {A : Type 0} → (Token → Bool) → (List A → Parser A) → Parser (List A)
 many_until stops item = many (λ w. not (stops w)) item
-
--- the first value there is
-abbrev pub first_some : {A : Type 0} → List (Option A) → Option A
-first_some [] = None
-first_some (None ∷ os) = first_some os
-first_some (Some x ∷ os) = Some x

@@ -1,5 +1,6 @@
 -- What a reader has left, and what its calls do.
 use Rattle.std.specs.Prelude.{◌≡◌, ℕ, ◌+◌, ◌<◌, ◌≤◌, List, length, Option, Result, Ok, Err, OnOk, IfOk, IfSome}
+use Rattle.eco_common.specs.declared.limits.TheConstants.{MAX_DEF_BYTES}
 use Rattle.eco_text.specs.Words.{Walk, finished, open_quote, word_then}
 use Rattle.eco_text.specs.Cursor.{Cursor, from, after}
 use Rattle.eco_text.specs.declared.word.Word.{Word}
@@ -8,7 +9,7 @@ use Rattle.eco_def.specs.Parsing.{Parser, size}
 use Rattle.eco_def.specs.declared.fault.DefFault.{DefFault}
 use Rattle.eco_def.specs.declared.fault.DefFault.TheVariants.{Text, UnknownHeading, Unended, BadStatement, TwiceNamed, MustJoin, Limit, Missing, Memory}
 
--- a text, the word ahead, and the place behind it
+-- a text, the word ahead, and the place after it
 pub record Reading : Type 0 where
   pub text : List ℕ
   pub ahead : Result (Option Word) TextFault
@@ -24,10 +25,10 @@ LiesIn text w = (w.start < w.end) × (w.end ≤ length text)
 
 pub record IsReading (text : List ℕ) (ahead : Result (Option Word) TextFault) (cursor : Cursor) : Type 0 where
   pub same : cursor.text ≡ text
-  pub short : length text ≤ 134217728
+  pub short : length text ≤ MAX_DEF_BYTES
   pub within : IfOk ahead (λ o. IfSome o (LiesIn text))
 
--- the words stand one behind another, from lo on and up to hi
+-- the words stand one after another, from lo on and up to hi
 abbrev pub IsInOrder : ℕ → ℕ → Walk → Type 0
 IsInOrder lo hi (finished place) = (lo ≤ place) × (place ≤ hi)
 IsInOrder lo hi (open_quote place) = (lo ≤ place) × (place ≤ hi)

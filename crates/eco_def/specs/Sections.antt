@@ -1,6 +1,8 @@
 -- What was read at the top level, part by part.
 use Rattle.std.specs.Prelude.{◌≡◌, ℕ, ◌-◌, ◌<◌, ◌≤◌, Bool, true, false, List, [], ◌∷◌, ◌++◌, length, map, sum_by, Option, Some, None, is_some, is_none, IfSome, Result, Ok, Err, OnOk, IfOk, codes}
 use Rattle.std.specs.Option.{option_map}
+use Rattle.std.specs.List.{flat_map}
+use Rattle.eco_common.specs.declared.limits.TheConstants.{MAX_DEF_BYTES}
 use Rattle.eco_text.specs.Words.{Walk}
 use Rattle.eco_text.specs.Cursor.{token}
 use Rattle.eco_text.specs.declared.word.Word.{Word}
@@ -13,13 +15,15 @@ use Rattle.eco_def.specs.declared.room.Room.{Room}
 use Rattle.eco_def.specs.declared.design.Comp.{Comp}
 use Rattle.eco_def.specs.declared.design.TopPin.{TopPin}
 use Rattle.eco_def.specs.Design as said
-use Rattle.eco_def.specs.Grammar.{Kind, CompKind, PinKind, SpecialKind, NetKind, NoKind, units_of, comps_of, pins_of, special_of, nets_of, last_some, or_none, design_of}
-use Rattle.eco_def.specs.Parsing.{is_word, many_until, first_some}
+use Rattle.eco_def.specs.Grammar.{Kind, CompKind, PinKind, SpecialKind, NetKind, NoKind, units_of, comps_of, pins_of, special_of, nets_of, last_some, or_none, statements_of, whole_room, room_after, part_within, parts_within, design_of}
+use Rattle.eco_def.specs.Parsing.{many_until}
+use Rattle.eco_text.specs.Tokens.{is_word}
+use Rattle.eco_common.specs.Options.{first_some}
 use Rattle.eco_def.specs.declared.fault.DefFault.{DefFault}
 use Rattle.eco_def.specs.declared.fault.DefFault.TheVariants.{Missing}
 use Rattle.eco_def.specs.declared.fault.Section.TheVariants.{Units as NoUnits, Components as NoComponents, Nets as NoNets}
 use Rattle.eco_def.specs.declared.design.Design.{Design}
-use Rattle.eco_def.specs.Limits.{WithinLimits, part_within, parts_within, room_of}
+use Rattle.eco_def.specs.Limits.{WithinLimits}
 use Rattle.eco_def.specs.View.{comp_in, pin_in, net_in, design_in}
 use Rattle.eco_def.specs.Reading.{Reading, left, IsInOrder, Refuses}
 
@@ -55,6 +59,10 @@ seen_in s SpecialKind = is_some s.special
 seen_in s NetKind = is_some s.nets
 seen_in s NoKind = false
 
+-- the room that the statements of parts leave
+abbrev pub room_of : List said.Part → Room
+room_of ps = room_after whole_room (flat_map statements_of ps)
+
 -- the sections are those of the parts, and what room they leave
 pub record AreOf (text : List ℕ) (s : Sections) (ps : List said.Part) : Type 0 where
   pub units : s.units ≡ last_some (map units_of ps)
@@ -66,16 +74,16 @@ pub record AreOf (text : List ℕ) (s : Sections) (ps : List said.Part) : Type 0
 
 -- ---- where statements lie
 
--- a statement lies before the words that are left behind it
+-- a statement lies before the words that are left after it
 abbrev pub IsPlaced : Reading → Reading → NetStatement → Type 0
 IsPlaced old new s = (lo hi : ℕ) → IsInOrder lo hi (left old) → (lo ≤ s.start) × (s.start < s.end) × IsInOrder s.end hi (left new)
 
--- the statements lie one behind another, from lo on and up to hi
+-- the statements lie one after another, from lo on and up to hi
 abbrev pub ArePlaced : ℕ → ℕ → List NetStatement → Type 0
 ArePlaced lo hi [] = lo ≤ hi
 ArePlaced lo hi (s ∷ ss) = (lo ≤ s.start) × (s.start < s.end) × ArePlaced s.end hi ss
 
--- the statements lie one behind another, and before the words that are left
+-- the statements lie one after another, and before the words that are left
 abbrev pub ArePlacedBetween : Reading → Reading → List NetStatement → Type 0
 ArePlacedBetween old new ss = (lo hi : ℕ) → IsInOrder lo hi (left old) → (at : ℕ) × ArePlaced lo at ss × IsInOrder at hi (left new)
 
@@ -117,7 +125,7 @@ PartLies old new (Pins ps) = Unit {0}
 PartLies old new (Special ss) = ArePlacedBetween old new ss × AreSpecial ss
 PartLies old new (Nets s) = SectionLiesBetween old new s × AreOrdinary s.nets
 
--- the statements of both sections lie one section behind the other
+-- the statements of both sections lie one section after the other
 abbrev pub BothLie : Bool → ℕ → ℕ → List NetStatement → NetSection → Type 0
 BothLie true lo hi ss s = (mid : ℕ) × ArePlaced lo mid ss × SectionLies mid hi s
 BothLie false lo hi ss s = (mid : ℕ) × SectionLies lo mid s × ArePlaced mid hi ss
@@ -178,12 +186,12 @@ GivesSections text parsed (Err e) rest = Refuses parsed e
 pub record ReadsSections (old new : Reading) (result : Result Sections DefFault) : Type 0 where
   pub text : new.text ≡ old.text
   pub order : (lo hi : ℕ) → IsInOrder lo hi (left old) → OnOk result (IsInOrder lo hi (left new))
-  pub value : GivesSections old.text (many_until (is_word (codes "END")) part_within (left old)) result (left new)
+  pub value : GivesSections old.text (many_until (is_word (codes "END")) (part_within (Some whole_room)) (left old)) result (left new)
   pub lie : IfOk result (SectionsLie old new)
 
 -- all parts and END DESIGN are read
 pub record ReadsParts (old new : Reading) (result : Result Sections DefFault) : Type 0 where
-  pub value : GivesSections old.text (parts_within (left old)) result (left new)
+  pub value : GivesSections old.text (parts_within (Some whole_room) (left old)) result (left new)
   pub lie : IfOk result (SectionsLie old new)
 
 -- the first that is missing of UNITS, COMPONENTS and NETS
@@ -207,18 +215,18 @@ pub record IsOfSections (s : Sections) (d : Design) : Type 0 where
   pub section : s.nets ≡ Some (record { count = d.net_count; nets = ordinary; end = d.nets_end })
   pub nets : d.nets ≡ both s.special_first (or_none s.special) ordinary
 
--- Where the statements lie in a text of n bytes: those of SPECIALNETS and those of NETS, one section behind the other.
+-- Where the statements lie in a text of n bytes: those of SPECIALNETS and those of NETS, one section after the other.
 pub data DesignLies (n : ℕ) (d : Design) : Type 0 where
   SpecialFirst : (mid : ℕ) (special nets : List NetStatement) → d.nets ≡ special ++ nets → AreSpecial special → AreOrdinary nets → ArePlaced 0 mid special → LiesBetween mid n d.net_count nets d.nets_end → DesignLies n d
   NetsFirst : (mid : ℕ) (nets special : List NetStatement) → d.nets ≡ nets ++ special → AreOrdinary nets → AreSpecial special → LiesBetween 0 mid d.net_count nets d.nets_end → ArePlaced mid n special → DesignLies n d
 
 -- the design is what the text says, by all rules and within all limits
 pub record IsReadingOf (text : List ℕ) (d : Design) : Type 0 where
-  pub short : length text ≤ 134217728
+  pub short : length text ≤ MAX_DEF_BYTES
   pub read : design_of text ≡ Ok (design_in text d)
   pub limits : WithinLimits (design_in text d)
   pub lies : DesignLies (length text) d
 
--- END stands at a place before the words that are left behind it
+-- END stands at a place before the words that are left after it
 abbrev pub Ends : Reading → Reading → ℕ → Type 0
 Ends old new place = (lo hi : ℕ) → IsInOrder lo hi (left old) → (lo ≤ place) × IsInOrder place hi (left new)

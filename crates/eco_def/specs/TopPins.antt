@@ -2,13 +2,14 @@
 use Rattle.std.specs.Prelude.{◌≡◌, ℕ, Bool, List, map, Option, Some, None, Result, IfOk}
 use Rattle.eco_text.specs.Words.{Token}
 use Rattle.eco_text.specs.Cursor.{token}
-use Rattle.eco_text.specs.declared.geometry.Dir.{Dir}
+use Rattle.eco_common.specs.declared.geometry.Dir.{Dir}
 use Rattle.eco_def.specs.declared.pin_clause.PinClause.{PinClause}
 use Rattle.eco_def.specs.declared.pin_clause.PinClause.TheVariants.{Net, Direction, Use, Other}
 use Rattle.eco_def.specs.declared.pin_clause.PinClauses.{PinClauses}
 use Rattle.eco_def.specs.declared.fault.DefFault.{DefFault}
 use Rattle.eco_def.specs.Grammar as said
-use Rattle.eco_def.specs.Parsing.{Parser, first_some}
+use Rattle.eco_def.specs.Parsing.{Parser}
+use Rattle.eco_common.specs.Options.{first_some}
 use Rattle.eco_def.specs.View.{usage_in}
 use Rattle.eco_def.specs.Reading.{Reading, Reads}
 

@@ -1,27 +1,23 @@
 //! Reading COMPONENTS.
 
-ghost use Rattle.std.specs.Prelude.{◌≡◌, ℕ, List, map, IfOk, OnOk, codes};
+ghost use Rattle.std.specs.Prelude.{◌≡◌, Some, IfOk};
 ghost use Rattle.eco_text.specs.Cursor.{token};
-ghost use Rattle.eco_def.specs.Parsing.{is_word, many, valued};
-ghost use Rattle.eco_def.specs.Grammar.{orient_of, place, comp_clause, comp_place};
-ghost use Rattle.eco_def.specs.Limits.{comp_new_within, comp_within};
-ghost use Rattle.eco_def.specs.Known.{knows, Adds};
+ghost use Rattle.eco_def.specs.Parsing.{valued};
+ghost use Rattle.eco_def.specs.Grammar.{most_statements, orient_of, place, comp_clause, comp_place, comp_new_within, comps_within};
+ghost use Rattle.eco_text.specs.Tokens.{is_word};
+ghost use Rattle.eco_common.specs.KnownNames.{knows, Adds};
 ghost use Rattle.eco_def.specs.View.{comp_in, comps_in};
 ghost use Rattle.eco_def.specs.Reading.{Reads, IsAhead, as_is};
 
 use crate::design::Comp;
 use crate::fault::DefFault;
-use crate::names::Names;
 use crate::orient::Orient;
 use crate::place::Place;
 use crate::reader::Reader;
-use eco_text::Point;
+use eco_common::{MAX_COMPS, Names, Point};
 use sqlite_items::Items;
 use std::alloc::Global;
 use std::collections::HashMap;
-
-/// The most components of a design.
-const MOST_COMPS: usize = 1_000_000;
 
 fn read_orient(bytes: &[u8]) -> Option<Orient>
     ensures { result ≡ orient_of bytes.now }
@@ -95,7 +91,7 @@ impl<'a> Reader<'a> {
         Ok(place)
     }
 
-    #[tactic(auto, unfolding(crate::specs::Limits::comp_new_within))]
+    #[tactic(auto, unfolding(crate::specs::Grammar::comp_new_within))]
     fn comp(&mut self, names: &mut Names<'a>, room: bool) -> Result<Comp, DefFault>
         ensures reads { Reads 1 comp_in (comp_new_within room (knows names.old)) self.old self.new result }
         ensures names { IfOk result (λ c. Adds names.old names.new (token self.old.text c.name).bytes) }
@@ -109,12 +105,12 @@ impl<'a> Reader<'a> {
     }
 
     pub fn comps(&mut self, alloc: Global) -> Result<Items<Comp>, DefFault>
-        ensures { Reads 0 comps_in (many (is_word (codes "-")) comp_within) self.old self.new result }
+        ensures { Reads 0 comps_in (comps_within (Some most_statements)) self.old self.new result }
     {
         let mut names = HashMap::with_capacity(alloc, self.names_likely())?;
         let mut comps = Items::new(alloc);
         'comps: while self.next_is(b"-") {
-            let room = comps.len() < MOST_COMPS;
+            let room = comps.len() < MAX_COMPS;
             let comp = self.comp(&mut names, room)?;
             comps.push(comp)?;
         }

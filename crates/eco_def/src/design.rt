@@ -2,7 +2,8 @@
 
 use crate::joints::Joints;
 use crate::place::Place;
-use eco_text::{Dir, Word};
+use eco_common::Dir;
+use eco_text::Word;
 use sqlite_items::Items;
 
 /// A component: its name, its macro, and its place where it is placed.
@@ -22,7 +23,7 @@ pub struct TopPin {
     pub supply: bool,
 }
 
-/// `( comp pin )` in a net's statement, from its opening bracket to behind its closing one. A top pin has the word
+/// `( comp pin )` in a net's statement, from its opening bracket up to and with its closing one. A top pin has the word
 /// `PIN` as `comp`.
 #[derive(Clone, Copy, Debug, Drop, PartialEq, Eq)]
 pub struct Joint {
@@ -32,7 +33,7 @@ pub struct Joint {
     pub end: u32,
 }
 
-/// A statement of NETS, or where `special` of SPECIALNETS, from its `-` to behind its `;`.
+/// A statement of NETS, or where `special` of SPECIALNETS, from its `-` up to and with its `;`.
 #[derive(Debug, Drop)]
 pub struct NetStatement {
     pub name: Word,

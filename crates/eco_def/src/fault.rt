@@ -27,7 +27,7 @@ impl Display for Section {
     }
 }
 
-/// The first fault of a text, with its place in bytes, or want of memory.
+/// The first fault of a text, with its place in bytes, or out of memory.
 #[derive(Clone, Copy, Debug, Drop, PartialEq, Eq, Error)]
 pub enum DefFault {
     /// A quoted word doesn't end.

@@ -26,4 +26,4 @@ pub use crate::fault::{DefFault, Section};
 pub use crate::joints::{JointIter, Joints};
 pub use crate::orient::Orient;
 pub use crate::place::Place;
-pub use crate::read::{faults_stay, limits_keep, read_def};
+pub use crate::read::{faults_stay, limit_stands, limits_keep, read_def};

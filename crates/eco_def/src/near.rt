@@ -18,7 +18,7 @@ pub struct NearJoint {
     /// From there to its pin, and the length of that.
     to_pin: u8,
     pin: u8,
-    /// From there to behind its closing bracket.
+    /// From there up to and with its closing bracket.
     behind: u8,
 }
 
@@ -29,7 +29,7 @@ fn distance(from: u32, to: u32) -> Option<u8>
     u8::try_from(to.wrapping_sub(from)).ok()
 }
 
-/// The place so far behind another.
+/// The place so far after another.
 fn onward(from: u32, distance: u8) -> u32
     ensures { result ≡ onward from distance }
 {
@@ -37,7 +37,7 @@ fn onward(from: u32, distance: u8) -> u32
 }
 
 impl NearJoint {
-    /// A joint behind a place, if it is near.
+    /// A joint after a place, if it is near.
     pub fn of(from: u32, joint: &Joint) -> Option<NearJoint>
         ensures { IfSome result (λ near. joint_behind from near ≡ joint.now) }
     {
@@ -54,7 +54,7 @@ impl NearJoint {
         })
     }
 
-    /// The joint that it is behind a place.
+    /// The joint that it is after a place.
     pub fn behind(self, from: u32) -> Joint
         ensures { result ≡ joint_behind from self }
     {

@@ -1,10 +1,10 @@
 //! Reading NETS and SPECIALNETS.
 
-ghost use Rattle.std.specs.Prelude.{◌≡◌, false, IfOk};
+ghost use Rattle.std.specs.Prelude.{◌≡◌, false, Some, IfOk};
 ghost use Rattle.eco_text.specs.Cursor.{token};
-ghost use Rattle.eco_def.specs.Grammar.{joint_end, joint, some_use, net_clause_new, net_usage, net_tail};
-ghost use Rattle.eco_def.specs.Limits.{where_room, joints_within, net_name_within, net_new_within, nets_within};
-ghost use Rattle.eco_def.specs.Known.{knows, Adds};
+ghost use Rattle.eco_def.specs.Grammar.{joint_end, joint, some_use, net_clause_new, net_usage, net_tail, joints_within, net_name_within, net_new_within, nets_within};
+ghost use Rattle.eco_def.specs.Parsing.{where_room};
+ghost use Rattle.eco_common.specs.KnownNames.{knows, Adds};
 ghost use Rattle.eco_def.specs.View.{joint_in, joints_in, usage_in, net_in, nets_in};
 ghost use Rattle.eco_def.specs.Reading.{Reads, IsAhead};
 ghost use Rattle.eco_def.specs.Sections.{IsPlaced, ArePlacedBetween, AreOfKind};
@@ -12,16 +12,16 @@ ghost use Rattle.eco_def.specs.Sections.{IsPlaced, ArePlacedBetween, AreOfKind};
 use crate::design::{Joint, NetStatement};
 use crate::fault::DefFault;
 use crate::joints::Joints;
-use crate::names::Names;
 use crate::reader::Reader;
 use crate::room::Room;
+use eco_common::Names;
 use eco_text::Word;
 use sqlite_items::Items;
 use std::alloc::Global;
 use std::collections::HashMap;
 
 impl<'a> Reader<'a> {
-    /// The `)` of a joint, behind `+ SYNTHESIZED` or not.
+    /// The `)` of a joint, with or without `+ SYNTHESIZED` before it.
     #[tactic(auto, unfolding(crate::specs::Grammar::joint_end))]
     fn joint_end(&mut self) -> Result<Word, DefFault>
         ensures { Reads 1 token joint_end self.old self.new result }
@@ -66,7 +66,7 @@ impl<'a> Reader<'a> {
         room: usize,
         scratch: &mut Vec<Joint>,
     ) -> Result<Joints, DefFault>
-        ensures { Reads 0 joints_in (joints_within room) self.old self.new result }
+        ensures { Reads 0 joints_in (joints_within (Some room)) self.old self.new result }
     {
         scratch.clear();
         'joints: while self.next_is(b"(") {
@@ -103,7 +103,7 @@ impl<'a> Reader<'a> {
         self.some_use()
     }
 
-    /// What stands behind a net's joints, up to the end: the first use.
+    /// What follows a net's joints, up to the end: the first use.
     #[tactic(auto, unfolding(crate::specs::Grammar::net_tail))]
     fn net_tail(&mut self) -> Result<Option<Word>, DefFault>
         ensures { Reads 0 usage_in net_tail self.old self.new result }
@@ -136,7 +136,7 @@ impl<'a> Reader<'a> {
         self.new_name(names, room)
     }
 
-    #[tactic(auto, unfolding(crate::specs::Limits::net_new_within))]
+    #[tactic(auto, unfolding(crate::specs::Grammar::net_new_within))]
     fn net(
         &mut self,
         alloc: Global,
@@ -145,7 +145,7 @@ impl<'a> Reader<'a> {
         room: Room,
         scratch: &mut Vec<Joint>,
     ) -> Result<NetStatement, DefFault>
-        ensures reads { Reads 1 net_in (net_new_within room (knows names.old)) self.old self.new result }
+        ensures reads { Reads 1 net_in (net_new_within (Some room) (knows names.old)) self.old self.new result }
         ensures names { IfOk result (λ s. Adds names.old names.new (token self.old.text s.name).bytes) }
         ensures placed { IfOk result (λ s. IsPlaced self.old self.new s) }
         ensures kind { IfOk result (λ s. s.special ≡ special) }
@@ -172,7 +172,7 @@ impl<'a> Reader<'a> {
         special: bool,
         room: Room,
     ) -> Result<Items<NetStatement>, DefFault>
-        ensures reads { Reads 0 nets_in (nets_within room) self.old self.new result }
+        ensures reads { Reads 0 nets_in (nets_within (Some room)) self.old self.new result }
         ensures placed { IfOk result (λ ss. ArePlacedBetween self.old self.new ss) }
         ensures kind { IfOk result (λ ss. AreOfKind special ss) }
     {

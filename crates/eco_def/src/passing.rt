@@ -2,7 +2,8 @@
 
 ghost use Rattle.std.specs.Prelude.{◌≡◌, ◌&&◌, IfOk, codes};
 ghost use Rattle.eco_text.specs.Cursor.{token};
-ghost use Rattle.eco_def.specs.Parsing.{is_word, pass_to, pass_to_both};
+ghost use Rattle.eco_text.specs.Tokens.{is_word};
+ghost use Rattle.eco_def.specs.Parsing.{pass_to, pass_to_both};
 ghost use Rattle.eco_def.specs.Grammar.{passed_section, passed_up_to};
 ghost use Rattle.eco_def.specs.Reading.{Reads};
 ghost use Rattle.eco_def.specs.Sections.{part_in, IsPassed};
@@ -23,7 +24,7 @@ impl<'a> Reader<'a> {
         self.word(keyword)
     }
 
-    /// The words up to `END` and this one behind it, and those two.
+    /// The words up to `END` and this one after it, and those two.
     fn pass_to_end(&mut self, keyword: &[u8]) -> Result<Word, DefFault>
         ensures { Reads 1 token (pass_to_both (is_word (codes "END")) (is_word keyword.now)) self.old self.new result }
     {

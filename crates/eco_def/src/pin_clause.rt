@@ -1,6 +1,7 @@
 //! The clauses of a top pin.
 
-use eco_text::{Dir, Word};
+use eco_common::Dir;
+use eco_text::Word;
 
 /// A clause, or a word that is passed over.
 #[derive(Clone, Copy, Debug, Drop, PartialEq, Eq)]

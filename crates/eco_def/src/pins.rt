@@ -3,26 +3,23 @@
 ghost use Rattle.std.specs.Prelude.{◌≡◌, ℕ, List, IfOk, map, codes, nat_lt, length, Some, None};
 ghost use Rattle.std.specs.Option.{option_or};
 ghost use Rattle.eco_text.specs.Cursor.{token};
-ghost use Rattle.eco_def.specs.Parsing.{valued, is_word, many, many_until};
-ghost use Rattle.eco_def.specs.Grammar.{dir_of as dir_said, pin_net, pin_dir, pin_use, pin_clause, pin_clauses};
-ghost use Rattle.eco_def.specs.Limits.{pin_named, top_pin_new_within, top_pin_within};
-ghost use Rattle.eco_def.specs.Known.{knows, Adds};
+ghost use Rattle.eco_def.specs.Parsing.{valued, many_until};
+ghost use Rattle.eco_def.specs.Grammar.{dir_of as dir_said, pin_net, pin_dir, pin_use, pin_clause, pin_clauses, most_statements, pin_named, top_pin_new_within, top_pins_within};
+ghost use Rattle.eco_text.specs.Tokens.{is_word};
+ghost use Rattle.eco_common.specs.KnownNames.{knows, Adds};
 ghost use Rattle.eco_def.specs.View.{pin_in, pins_in, usage_in};
 ghost use Rattle.eco_def.specs.TopPins.{clause_in, net_given, dir_given, supply_given, ReadsClauses};
 ghost use Rattle.eco_def.specs.Reading.{Reads, as_is};
 
 use crate::design::TopPin;
 use crate::fault::DefFault;
-use crate::names::Names;
 use crate::pin_clause::{PinClause, PinClauses};
 use crate::reader::Reader;
-use eco_text::{Dir, Word};
+use eco_common::{Dir, MAX_TOP_PINS, Names};
+use eco_text::Word;
 use sqlite_items::Items;
 use std::alloc::Global;
 use std::collections::HashMap;
-
-/// The most top pins of a design.
-const MOST_PINS: usize = 1_000_000;
 
 fn read_dir(bytes: &[u8]) -> Option<Dir>
     ensures { result ≡ dir_said bytes.now }
@@ -135,7 +132,7 @@ impl<'a> Reader<'a> {
         Ok(kept)
     }
 
-    /// What stands behind a pin's name: clauses up to the end.
+    /// What follows a pin's name: clauses up to the end.
     fn pin_clauses(&mut self) -> Result<PinClauses, DefFault>
         ensures { ReadsClauses pin_clauses self.old self.new result }
     {
@@ -145,7 +142,7 @@ impl<'a> Reader<'a> {
         self.clauses_to_end()
     }
 
-    /// A pin behind its name. Its net must stand.
+    /// A pin after its name. Its net must be stated.
     fn pin_named(&mut self, name: Word) -> Result<TopPin, DefFault>
         ensures reads { Reads 0 pin_in (pin_named (token self.old.text name)) self.old self.new result }
         ensures name { IfOk result (λ p. p.name ≡ name) }
@@ -162,7 +159,7 @@ impl<'a> Reader<'a> {
         }
     }
 
-    #[tactic(auto, unfolding(crate::specs::Limits::top_pin_new_within))]
+    #[tactic(auto, unfolding(crate::specs::Grammar::top_pin_new_within))]
     fn top_pin(&mut self, names: &mut Names<'a>, room: bool) -> Result<TopPin, DefFault>
         ensures reads { Reads 1 pin_in (top_pin_new_within room (knows names.old)) self.old self.new result }
         ensures names { IfOk result (λ p. Adds names.old names.new (token self.old.text p.name).bytes) }
@@ -175,12 +172,12 @@ impl<'a> Reader<'a> {
     }
 
     pub fn top_pins(&mut self, alloc: Global) -> Result<Items<TopPin>, DefFault>
-        ensures { Reads 0 pins_in (many (is_word (codes "-")) top_pin_within) self.old self.new result }
+        ensures { Reads 0 pins_in (top_pins_within (Some most_statements)) self.old self.new result }
     {
         let mut names = HashMap::new(alloc);
         let mut pins = Items::new(alloc);
         'pins: while self.next_is(b"-") {
-            let room = pins.len() < MOST_PINS;
+            let room = pins.len() < MAX_TOP_PINS;
             let pin = self.top_pin(&mut names, room)?;
             pins.push(pin)?;
         }

@@ -1,7 +1,7 @@
 //! Where a component lies.
 
 use crate::orient::Orient;
-use eco_text::Point;
+use eco_common::Point;
 
 /// The lower left corner of the placed, oriented box, in database units, and how the box lies.
 #[derive(Clone, Copy, Debug, Drop, PartialEq, Eq)]

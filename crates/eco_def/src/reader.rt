@@ -1,18 +1,19 @@
 //! A reader that goes over the words of a text, one ahead.
 
-ghost use Rattle.std.specs.Prelude.{◌≡◌, ◌<◌, ◌≤◌, ◌&&◌, not, length, slice_range, Some, Err, IfOk, OnOk, IfErr};
+ghost use Rattle.std.specs.Prelude.{◌≡◌, ◌/◌, ◌<◌, ◌≤◌, ◌&&◌, not, length, slice_range, Some, Err, IfOk, OnOk, IfErr};
 ghost use Rattle.std.specs.Str.{bytes_eq};
 ghost use Rattle.std.specs.List.{list_all, list_any};
 ghost use Rattle.eco_text.specs.Words.{Token, walk_of};
 ghost use Rattle.eco_text.specs.Cursor.{token};
 ghost use Rattle.eco_text.specs.Numbers.{integer_of};
-ghost use Rattle.eco_def.specs.Parsing.{begins, any, refuse, is_word, word as word_at, name as name_at, is_name, is_mark as mark, is_name_byte, bytes_ahead, valued, pass_to};
+ghost use Rattle.eco_def.specs.Parsing.{begins, any, refuse, word as word_at, name as name_at, bytes_ahead, valued, pass_to};
+ghost use Rattle.eco_text.specs.Tokens.{is_word, is_name as is_name_word};
 ghost use Rattle.eco_def.specs.declared.fault.DefFault.TheVariants.{BadStatement, TwiceNamed, MustJoin, UnknownHeading, Limit, Memory};
-ghost use Rattle.eco_def.specs.Known.{knows, Adds};
+ghost use Rattle.eco_common.specs.KnownNames.{knows, Adds};
 ghost use Rattle.eco_def.specs.Reading.{Reads, left, LiesIn, IsAhead, as_is};
 
 use crate::fault::DefFault;
-use crate::names::{Names, add_name};
+use eco_common::{MAX_DEF_BYTES, Names, add_name, is_mark, is_name};
 use eco_text::{TextFault, Word, Words, read_i32};
 use std::marker::Model;
 
@@ -49,32 +50,17 @@ fn is_one_of(text: &[u8], word: Word, keywords: &[&[u8]]) -> bool
         .any(|keyword| is_keyword(text, word, keyword))
 }
 
-fn is_mark(bytes: &[u8]) -> bool
-    ensures { result ≡ mark bytes.now }
-{
-    match bytes {
-        [byte] => matches!(byte, b';' | b'(' | b')' | b'+' | b'-'),
-        _ => false,
-    }
-}
-
-fn has_name_bytes(bytes: &[u8]) -> bool
-    ensures { result ≡ list_all is_name_byte bytes.now }
-{
-    bytes.iter().all(|byte| 33 <= *byte && *byte <= 126)
-}
-
 fn can_name(text: &[u8], word: Word) -> bool
     requires { LiesIn text.now word }
-    ensures { result ≡ is_name (token text.now word) }
+    ensures { result ≡ is_name_word (token text.now word) }
 {
     let bytes = &text[word.start as usize..word.end as usize];
-    !word.quoted && !is_mark(bytes) && bytes.len() <= 1024 && has_name_bytes(bytes)
+    !word.quoted && !is_mark(bytes) && is_name(bytes)
 }
 
 impl<'a> Reader<'a> {
     pub fn new(text: &'a [u8]) -> Reader<'a>
-        requires { length text.now ≤ 134217728 }
+        requires { length text.now ≤ MAX_DEF_BYTES }
         ensures text { result.text ≡ text.now }
         ensures left { left result ≡ walk_of text.now }
     {
@@ -85,7 +71,9 @@ impl<'a> Reader<'a> {
 
     /// How many names a section is likely to have: a text has about one in so many bytes. More is no harm but memory, and
     /// fewer only lets a map of them grow.
-    pub fn names_likely(&self) -> usize {
+    pub fn names_likely(&self) -> usize
+        ensures { result ≡ length self.now.text / 128 }
+    {
         self.text.len() / 128
     }
 
@@ -139,7 +127,7 @@ impl<'a> Reader<'a> {
     }
 
     pub fn next_is_name(&self) -> bool
-        ensures { result ≡ begins is_name (left self.now) }
+        ensures { result ≡ begins is_name_word (left self.now) }
     {
         match self.ahead {
             Ok(Some(word)) => can_name(self.text, word),

@@ -13,7 +13,7 @@ pub struct Room {
 }
 
 impl Room {
-    /// The room behind one more statement.
+    /// The room after one more statement.
     pub fn behind(self, net: &NetStatement) -> Room
         ensures { result ≡ record { nets = self.nets - 1; joints = self.joints - length net.now.joints } }
     {
@@ -23,7 +23,7 @@ impl Room {
         }
     }
 
-    /// The room behind some statements.
+    /// The room after some statements.
     pub fn behind_all(self, nets: &[NetStatement]) -> Room
         ensures { result ≡ room_less self nets.now }
     {

@@ -1,10 +1,9 @@
 //! Reading the sections and statements of the top level that are read.
 
-ghost use Rattle.std.specs.Prelude.{◌≡◌, IfOk};
+ghost use Rattle.std.specs.Prelude.{◌≡◌, Some, IfOk};
 ghost use Rattle.eco_text.specs.Cursor.{token};
 ghost use Rattle.eco_def.specs.Parsing.{valued};
-ghost use Rattle.eco_def.specs.Grammar.{units_number as units_said, units, section_head, section_end};
-ghost use Rattle.eco_def.specs.Limits.{comp_section_within, pin_section_within, special_section_within, net_section_within};
+ghost use Rattle.eco_def.specs.Grammar.{units_number as units_said, units, section_head, section_end, most_statements, comp_section_within, pin_section_within, special_section_within, net_section_within};
 ghost use Rattle.eco_def.specs.Reading.{Reads, IsAhead, as_is};
 ghost use Rattle.eco_def.specs.Sections.{part_in, comps_part, pins_part, special_part, nets_part, IsPlain, ArePlacedBetween, SectionLiesBetween, AreSpecial, AreOrdinary, Ends};
 
@@ -13,6 +12,7 @@ use crate::fault::DefFault;
 use crate::part::{NetSection, Part};
 use crate::reader::Reader;
 use crate::room::Room;
+use eco_common::MAX_UNITS;
 use eco_text::{Word, read_number};
 use sqlite_items::Items;
 use std::alloc::Global;
@@ -20,7 +20,7 @@ use std::alloc::Global;
 fn read_units(bytes: &[u8]) -> Option<u32>
     ensures { result ≡ units_said bytes.now }
 {
-    match read_number(1_000_000, bytes) {
+    match read_number(MAX_UNITS, bytes) {
         Some(0) | None => None,
         Some(units) => Some(units),
     }
@@ -75,9 +75,9 @@ impl<'a> Reader<'a> {
         Ok(end)
     }
 
-    #[tactic(auto, unfolding(crate::specs::Limits::comp_section_within))]
+    #[tactic(auto, unfolding(crate::specs::Grammar::comp_section_within))]
     pub fn comp_section(&mut self, alloc: Global) -> Result<Items<Comp>, DefFault>
-        ensures { Reads 1 comps_part comp_section_within self.old self.new result }
+        ensures { Reads 1 comps_part (comp_section_within (Some most_statements)) self.old self.new result }
     {
         self.section_head(b"COMPONENTS")?;
         let comps = self.comps(alloc)?;
@@ -85,9 +85,9 @@ impl<'a> Reader<'a> {
         Ok(comps)
     }
 
-    #[tactic(auto, unfolding(crate::specs::Limits::pin_section_within))]
+    #[tactic(auto, unfolding(crate::specs::Grammar::pin_section_within))]
     pub fn pin_section(&mut self, alloc: Global) -> Result<Items<TopPin>, DefFault>
-        ensures { Reads 1 pins_part pin_section_within self.old self.new result }
+        ensures { Reads 1 pins_part (pin_section_within (Some most_statements)) self.old self.new result }
     {
         self.section_head(b"PINS")?;
         let pins = self.top_pins(alloc)?;
@@ -95,13 +95,13 @@ impl<'a> Reader<'a> {
         Ok(pins)
     }
 
-    #[tactic(auto, unfolding(crate::specs::Limits::special_section_within))]
+    #[tactic(auto, unfolding(crate::specs::Grammar::special_section_within))]
     pub fn special_section(
         &mut self,
         alloc: Global,
         room: Room,
     ) -> Result<Items<NetStatement>, DefFault>
-        ensures reads { Reads 1 special_part (special_section_within room) self.old self.new result }
+        ensures reads { Reads 1 special_part (special_section_within (Some room)) self.old self.new result }
         ensures lie { IfOk result (ArePlacedBetween self.old self.new) }
         ensures special { IfOk result AreSpecial }
     {
@@ -111,9 +111,9 @@ impl<'a> Reader<'a> {
         Ok(nets)
     }
 
-    #[tactic(auto, unfolding(crate::specs::Limits::net_section_within))]
+    #[tactic(auto, unfolding(crate::specs::Grammar::net_section_within))]
     pub fn net_section(&mut self, alloc: Global, room: Room) -> Result<NetSection, DefFault>
-        ensures reads { Reads 1 nets_part (net_section_within room) self.old self.new result }
+        ensures reads { Reads 1 nets_part (net_section_within (Some room)) self.old self.new result }
         ensures lies { IfOk result (SectionLiesBetween self.old self.new) }
         ensures ordinary { IfOk result (λ s. AreOrdinary s.nets) }
     {

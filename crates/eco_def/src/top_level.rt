@@ -1,12 +1,12 @@
 //! Reading what stands at the top level.
 
-ghost use Rattle.std.specs.Prelude.{◌≡◌, true, false, Err, IfOk, MatchResult};
+ghost use Rattle.std.specs.Prelude.{◌≡◌, true, false, Some, Err, IfOk, MatchResult};
 ghost use Rattle.eco_text.specs.Words.{Token};
 ghost use Rattle.eco_text.specs.Cursor.{token};
 ghost use Rattle.eco_def.specs.declared.fault.DefFault.TheVariants.{TwiceNamed};
 ghost use Rattle.eco_def.specs.Parsing.{begins, refuse};
-ghost use Rattle.eco_def.specs.Grammar.{end_design, is_one_of, passed_sections, passed_statements};
-ghost use Rattle.eco_def.specs.Limits.{part_new_within};
+ghost use Rattle.eco_def.specs.Grammar.{end_design, passed_sections, passed_statements, part_new_within};
+ghost use Rattle.eco_text.specs.Tokens.{is_one_of};
 ghost use Rattle.eco_def.specs.Reading.{Reads, left};
 ghost use Rattle.eco_def.specs.Sections.{part_in, seen_in, IsFresh, PartLies, ReadsSections, ReadsParts};
 
@@ -14,14 +14,9 @@ use crate::fault::DefFault;
 use crate::part::{Part, Sections};
 use crate::reader::Reader;
 use crate::room::Room;
+use eco_common::{MAX_JOINTS, MAX_NETS};
 use eco_text::Word;
 use std::alloc::Global;
-
-/// The most net statements of a design, in NETS and SPECIALNETS together.
-const MOST_NETS: usize = 1_000_000;
-
-/// The most joints of a design.
-const MOST_JOINTS: usize = 4_000_000;
 
 impl<'a> Reader<'a> {
     fn begins_passed_section(&self) -> bool
@@ -72,9 +67,9 @@ impl<'a> Reader<'a> {
     }
 
     /// One section or statement.
-    #[tactic(auto, unfolding(crate::specs::Limits::part_new_within))]
+    #[tactic(auto, unfolding(crate::specs::Grammar::part_new_within))]
     fn part(&mut self, alloc: Global, sections: &Sections) -> Result<Part, DefFault>
-        ensures reads { Reads 1 part_in (part_new_within (seen_in sections.now) sections.now.room) self.old self.new result }
+        ensures reads { Reads 1 part_in (part_new_within (Some sections.now.room) (seen_in sections.now)) self.old self.new result }
         ensures fresh { IfOk result (IsFresh sections.now) }
         ensures lies { IfOk result (PartLies self.old self.new) }
     {
@@ -121,8 +116,8 @@ impl<'a> Reader<'a> {
             nets: None,
             special_first: false,
             room: Room {
-                nets: MOST_NETS,
-                joints: MOST_JOINTS,
+                nets: MAX_NETS,
+                joints: MAX_JOINTS,
             },
         };
         'parts: while self.next_is_not(b"END") {

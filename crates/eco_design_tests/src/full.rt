@@ -3,7 +3,7 @@
 use crate::said::{agree, depth_said, nets_said};
 use crate::texts::FUNCTIONS;
 use eco_def::read_def;
-use eco_full::{DesignFault, Macros, list_design};
+use eco_elaborate::{DesignFault, Macros, list_numbered};
 use eco_func::{Functions, read_functions};
 use eco_net::Netlist;
 use std::alloc::Global;
@@ -20,7 +20,7 @@ pub fn listed<M: Macros>(
         return Err("a text that is too long".into());
     }
     let design = read_def(alloc, text)?;
-    match list_design(alloc, text, &design, macros) {
+    match list_numbered(alloc, text, &design, macros) {
         Ok(maker) => Ok(Ok(maker.finish(alloc)?)),
         Err(fault) => Ok(Err(fault)),
     }

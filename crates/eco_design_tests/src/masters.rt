@@ -5,7 +5,7 @@ use crate::texts::FUNCTIONS;
 use eco_def::read_def;
 use eco_func::{Functions, read_functions};
 use eco_lef::read_lef;
-use eco_masters::check_masters;
+use eco_master_faults::check_masters;
 use std::alloc::Global;
 use std::test::Fail;
 

@@ -8,11 +8,11 @@ ghost use Rattle.eco_net.specs.Listing.{IsKnownPin};
 use crate::full::listed;
 use crate::said::{agree, depth_said, keys_said, nets_said, observables_said, values_said};
 use crate::texts::FUNCTIONS;
+use eco_common::Dir;
 use eco_func::{Functions, read_functions};
 use eco_lef::{Library, read_lef};
-use eco_masters::MasterTable;
+use eco_master_faults::MasterTable;
 use eco_net::{CompId, NetId, Netlist, NetlistMaker, PinRef};
-use eco_text::Dir;
 use std::alloc::Global;
 use std::test::Fail;
 
@@ -30,11 +30,11 @@ END LIBRARY
 
 /// The components of a design, its top pins, and its nets beside the supplies VDD and VSS.
 #[derive(Clone, Copy, Drop)]
-struct Parts(&'static str, &'static str, &'static str);
+pub struct Parts(&'static str, &'static str, &'static str);
 
 /// Nets that are driven by a top pin, a gate, a register, both of two gates, and nothing; and a gate whose output is on no
 /// net.
-fn sample() -> Parts {
+pub fn sample() -> Parts {
     Parts(
         "- u1 INV ; - r1 REG ; - u2 INV ; - u3 INV ; - u4 INV ;",
         "- a + NET a + DIRECTION INPUT ; - y + NET y + DIRECTION OUTPUT ; - pad + NET pad + DIRECTION INOUT ;",
@@ -118,7 +118,7 @@ fn mark(alloc: Global, maker: &mut NetlistMaker) -> Result<(), Fail> {
 }
 
 /// The netlist of these parts with VDD and VSS as tie nets, where `SP_1` stands for a component elsewhere.
-fn netlist_of(alloc: Global, parts: &Parts) -> Result<Netlist, Fail> {
+pub fn netlist_of(alloc: Global, parts: &Parts) -> Result<Netlist, Fail> {
     let mut maker = unmarked(alloc, parts)?.into_maker();
     mark(alloc, &mut maker)?;
     Ok(maker.finish(alloc)?)

@@ -8,8 +8,8 @@ ghost use Rattle.eco_overlay.specs.PinMoves.{named_joint, same_pin, are_pins_apa
 
 use crate::said::agree;
 use crate::texts::DEF;
+use eco_common::Name;
 use eco_def::{Design, read_def};
-use eco_func::Name;
 use eco_overlay::{NewJoint, Overlay, emit, emit_len, move_joint};
 use eco_text::ByteSink;
 use std::alloc::Global;

@@ -4,7 +4,7 @@ use crate::said::agree;
 use crate::texts::FUNCTIONS;
 use eco_def::{Design, read_def};
 use eco_func::{Functions, read_functions};
-use eco_places::{find_pattern, find_two_nets, find_unknown_pin, tops_agree};
+use eco_pin_faults::{find_pattern, find_two_nets, find_unknown_pin, tops_agree};
 use std::alloc::Global;
 use std::test::Fail;
 

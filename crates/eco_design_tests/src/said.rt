@@ -2,7 +2,7 @@
 
 ghost use Rattle.std.specs.Prelude.{◌≡◌, IfOk, length};
 
-use eco_func::Name;
+use eco_common::Name;
 use eco_net::{CutKey, CutValues, Kind, LoopFault, NetId, Netlist, PinRef, Values};
 use std::alloc::Global;
 use std::test::Fail;

@@ -1,3 +1,4 @@
 pub mod Moments
 pub mod Told
+pub mod Called
 pub mod Replays

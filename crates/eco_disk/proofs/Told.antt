@@ -1,4 +1,4 @@
--- A fact of the contents where they are told.
+-- A fact of the contents where they are reported.
 use Rattle.std.proofs.Common.{◌≡◌, List, ℕ, Option, Some, None, refl, subst}
 use Rattle.eco_disk.specs.Disk.{OnTold}
 

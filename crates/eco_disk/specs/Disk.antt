@@ -1,17 +1,17 @@
 -- What the calls of a disk do to what it holds, and what a crash may leave.
-use Rattle.std.specs.Prelude.{◌<◌, ◌≡◌, ◌^◌, ◌-◌, ℕ, ◌+◌, ◌≤◌, min, max, List, ◌++◌, length, take, drop, Option, Some, None, Result, IsErr}
+use Rattle.std.specs.Prelude.{◌<◌, ◌≡◌, ℕ, ◌+◌, ◌≤◌, min, max, List, ◌++◌, length, take, drop, Option, Some, None}
 
--- P of the contents, where the disk tells them: an honest disk does, and one that isn't may tell nothing
+-- P of the contents, where the disk reports them: an honest disk does, and one that isn't may report nothing
 abbrev pub OnTold : Option (List ℕ) → (List ℕ → Type 0) → Type 0
 OnTold None P = Unit {0}
 OnTold (Some bytes) P = P bytes
 
--- told contents go on to told contents by R, and untold ones stay untold
+-- reported contents go on to reported contents by R, and unreported ones stay unreported
 abbrev pub GoesOn : Option (List ℕ) → Option (List ℕ) → (List ℕ → List ℕ → Type 0) → Type 0
 GoesOn None now R = now ≡ None
 GoesOn (Some before) now R = (bytes : List ℕ) × (now ≡ Some bytes) × R before bytes
 
--- told contents stay told, whatever they are
+-- reported contents stay reported, whatever they are
 abbrev pub StaysTold : Option (List ℕ) → Option (List ℕ) → Type 0
 StaysTold before now = GoesOn before now (λ old new. Unit {0})
 
@@ -35,7 +35,7 @@ abbrev pub Same : List ℕ → List ℕ → Type 0
 Same old new = new ≡ old
 
 -- Time goes on from one moment to another. The images of the moments up to the first stay as they were, and those
--- of the moments behind it come from images of the first by a step.
+-- of the moments after it come from images of the first by a step.
 pub record Passes (before now : ℕ) (past present : ℕ → List ℕ → Type 0) (step : List ℕ → List ℕ → Type 0) : Type 0 where
   pub later : before ≤ now
   pub stays : (t : ℕ) (c : List ℕ) → t ≤ before → present t c → past t c
@@ -54,15 +54,6 @@ Only bytes leaves = (c : List ℕ) → leaves c → c ≡ bytes
 abbrev pub IsKept : Option (List ℕ) → (List ℕ → Type 0) → Type 0
 IsKept contents leaves = OnTold contents (λ bytes. Only bytes leaves)
 
--- the count has risen; at its greatest it stands still
-abbrev pub Rose : ℕ → ℕ → Type 0
-Rose before now = min (before + 1) (2 ^ 64 - 1) ≤ now
-
--- The count never falls, and a call fails only where it rose in it.
-pub record HasCause {T E : Type 0} (before now : ℕ) (result : Result T E) : Type 0 where
-  pub later : before ≤ now
-  pub failed : IsErr result → Rose before now
-
 -- From one moment to another, each image has P. Those of the moments up to the first stay as they were.
 pub record During (before now : ℕ) (past present : ℕ → List ℕ → Type 0) (P : List ℕ → Type 0) : Type 0 where
   pub later : before ≤ now
@@ -70,7 +61,7 @@ pub record During (before now : ℕ) (past present : ℕ → List ℕ → Type 0
   pub keeps : (t : ℕ) (c : List ℕ) → t ≤ before → past t c → present t c
   pub each : (t : ℕ) (c : List ℕ) → before ≤ t → t ≤ now → present t c → P c
 
--- the contents are told and have P, and so does each image
+-- the contents are reported and have P, and so does each image
 pub record Has (contents : Option (List ℕ)) (leaves : List ℕ → Type 0) (P : List ℕ → Type 0) : Type 0 where
   pub bytes : List ℕ
   pub told : contents ≡ Some bytes

@@ -2,8 +2,10 @@
 use Rattle.std.specs.Prelude.{◌≡◌, ℕ, List, [], ◌∷◌, length, take, Option, Some, unwrap_or, refl}
 use Rattle.std.proofs.Common.{inl, sym, ◌∙◌, ap, subst}
 use Rattle.eco_disk.specs.declared.call.Call.{Call}
-use Rattle.eco_disk.specs.declared.call.Call.TheVariants.{Len, Read, Write, Cut, Sync, Refused}
-use Rattle.eco_disk.specs.Replay.{made, made_all, left, left_all, image_at}
+use Rattle.eco_disk.specs.declared.call.Call.TheVariants.{Len, Read, Write, Cut, Sync}
+use Rattle.eco_disk.specs.declared.call.Attempt.{Attempt}
+use Rattle.eco_disk.specs.declared.call.Attempt.TheVariants.{Made, Failed}
+use Rattle.eco_disk.specs.Replay.{made, made_by, made_all, left, left_by, left_all, image_at}
 
 made_left : (call : Call) (bytes : List ℕ) (leaves : List ℕ → Type 0) → leaves bytes → left call bytes leaves (made call bytes)
 made_left Len bytes leaves now = now
@@ -11,19 +13,22 @@ made_left (Read at len) bytes leaves now = now
 made_left (Write at piece) bytes leaves now = inl refl
 made_left (Cut len) bytes leaves now = inl refl
 made_left Sync bytes leaves now = refl
-made_left Refused bytes leaves now = now
 
-pub reads_image : (calls : List Call) (bytes : List ℕ) (leaves : List ℕ → Type 0) → leaves bytes → left_all calls bytes leaves (made_all calls bytes)
+tried_left : (attempt : Attempt) (bytes : List ℕ) (leaves : List ℕ → Type 0) → leaves bytes → left_by attempt bytes leaves (made_by attempt bytes)
+tried_left (Made call) bytes leaves now = made_left call bytes leaves now
+tried_left (Failed call) bytes leaves now = now
+
+pub reads_image : (attempts : List Attempt) (bytes : List ℕ) (leaves : List ℕ → Type 0) → leaves bytes → left_all attempts bytes leaves (made_all attempts bytes)
 reads_image [] bytes leaves now = now
-reads_image (call ∷ calls) bytes leaves now = reads_image calls (made call bytes) (left call bytes leaves) (made_left call bytes leaves now)
+reads_image (attempt ∷ attempts) bytes leaves now = reads_image attempts (made_by attempt bytes) (left_by attempt bytes leaves) (tried_left attempt bytes leaves now)
 
-pub all_taken : (calls : List Call) → take (length calls) calls ≡ calls
+pub all_taken : (attempts : List Attempt) → take (length attempts) attempts ≡ attempts
 all_taken [] = refl
-all_taken (call ∷ calls) = ap (λ (l : List Call). call ∷ l) (all_taken calls)
+all_taken (attempt ∷ attempts) = ap (λ (l : List Attempt). attempt ∷ l) (all_taken attempts)
 
 -- at the present moment
-pub reads_now : (calls : List Call) (first now bytes : List ℕ) → now ≡ made_all calls first → Some now ≡ Some bytes → image_at first calls (length calls) bytes
-reads_now calls first now bytes is told =
-    let same : bytes ≡ made_all calls first = sym (ap (λ (o : Option (List ℕ)). unwrap_or o []) told) ∙ is in
-    subst (λ (l : List Call). left_all l first (λ d. d ≡ first) bytes) (sym (all_taken calls))
-    (subst (left_all calls first (λ d. d ≡ first)) (sym same) (reads_image calls first (λ d. d ≡ first) refl))
+pub reads_now : (attempts : List Attempt) (first now bytes : List ℕ) → now ≡ made_all attempts first → Some now ≡ Some bytes → image_at first attempts (length attempts) bytes
+reads_now attempts first now bytes is told =
+    let same : bytes ≡ made_all attempts first = sym (ap (λ (o : Option (List ℕ)). unwrap_or o []) told) ∙ is in
+    subst (λ (l : List Attempt). left_all l first (λ d. d ≡ first) bytes) (sym (all_taken attempts))
+    (subst (left_all attempts first (λ d. d ≡ first)) (sym same) (reads_image attempts first (λ d. d ≡ first) refl))

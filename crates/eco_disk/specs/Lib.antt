@@ -1,5 +1,6 @@
 pub mod Disk
-pub mod Past
+pub mod Calls
+pub mod Synced
 pub mod Contents
 pub mod Counter
 pub mod Replay

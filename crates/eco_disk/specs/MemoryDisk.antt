@@ -1,13 +1,15 @@
 -- What a disk in memory shows, and what each of its calls answers.
-use Rattle.std.specs.Prelude.{◌≡◌, ◌⊎◌, ℕ, Bool, true, false, Option, Some, List, [], ◌∷◌, ◌++◌, Result, OnOk, OnErr}
+use Rattle.std.specs.Prelude.{◌≡◌, ◌⊎◌, ◌==◌, if◌then◌else◌, ℕ, Bool, true, false, Option, Some, None, List, [], ◌∷◌, ◌++◌, map, Result, OnOk, OnErr}
 use Rattle.eco_disk.specs.declared.memory_disk.MemoryDisk.{MemoryDisk}
 use Rattle.eco_disk.specs.declared.call.Call.{Call}
-use Rattle.eco_disk.specs.declared.call.Call.TheVariants.{Refused}
+use Rattle.eco_disk.specs.declared.call.Attempt.{Attempt}
+use Rattle.eco_disk.specs.declared.call.Attempt.TheVariants.{Made, Failed}
 use Rattle.eco_disk.specs.Contents.{first_of, kept_of}
 use Rattle.eco_disk.specs.Moments.{moment_of, image_of}
-use Rattle.eco_disk.specs.Replay.{made}
+use Rattle.eco_disk.specs.Replay.{made, call_in}
 use Rattle.eco_disk.specs.Tape.{kept_by}
-use Rattle.eco_disk.specs.Counter.{next, is_listed}
+use Rattle.eco_disk.specs.Counter.{is_injected}
+use Rattle.eco_common.specs.Causes.{next_count}
 
 -- what a read gives
 abbrev pub bytes_of : MemoryDisk → List ℕ
@@ -21,11 +23,11 @@ synced_of disk = kept_of disk.tape.contents
 abbrev pub first_bytes : MemoryDisk → List ℕ
 first_bytes disk = first_of disk.tape.contents
 
--- its calls, those aside that found no memory
-abbrev pub calls_of : MemoryDisk → List Call
-calls_of disk = disk.tape.calls.items
+-- its calls, and whether they were made; those aside that found no memory
+abbrev pub attempts_of : MemoryDisk → List Attempt
+attempts_of disk = disk.tape.calls.items
 
--- it tells them
+-- it reports them
 abbrev pub contents : MemoryDisk → Option (List ℕ)
 contents disk = Some (bytes_of disk)
 
@@ -44,6 +46,13 @@ faults_of disk = disk.counter.faults
 abbrev pub starved_of : MemoryDisk → ℕ
 starved_of disk = disk.counter.starved
 
+-- It reports its calls until one finds no memory: that one isn't in the list.
+abbrev pub calls_told : List Attempt → ℕ → Option (List Call)
+calls_told attempts starved = if starved == 0 then Some (map call_in attempts) else None
+
+abbrev pub calls_of : MemoryDisk → Option (List Call)
+calls_of disk = calls_told (attempts_of disk) (starved_of disk)
+
 -- the numbers of the calls that are to fail, from 1
 abbrev pub failing_of : MemoryDisk → List ℕ
 failing_of disk = disk.counter.failing.items
@@ -53,30 +62,30 @@ abbrev pub number_of : MemoryDisk → ℕ
 number_of disk = disk.counter.asked
 
 -- whether the next call is to fail
-abbrev pub is_next_listed : MemoryDisk → Bool
-is_next_listed disk = is_listed (failing_of disk) (next (number_of disk))
+abbrev pub is_next_injected : MemoryDisk → Bool
+is_next_injected disk = is_injected (failing_of disk) (next_count (number_of disk))
 
 -- A call that fails was to fail, or found no memory. It changed nothing, and is counted.
-pub record Fails (old new : MemoryDisk) : Type 0 where
+pub record FailsCall (call : Call) (old new : MemoryDisk) : Type 0 where
   pub bytes : bytes_of new ≡ bytes_of old
   pub synced : synced_of new ≡ synced_of old
-  pub faults : faults_of new ≡ next (faults_of old)
-  pub why : ((is_next_listed old ≡ true) × (calls_of new ≡ calls_of old ++ Refused ∷ []) × (starved_of new ≡ starved_of old))
-      ⊎ ((calls_of new ≡ calls_of old) × (starved_of new ≡ next (starved_of old)))
+  pub faults : faults_of new ≡ next_count (faults_of old)
+  pub why : ((is_next_injected old ≡ true) × (attempts_of new ≡ attempts_of old ++ Failed call ∷ []) × (starved_of new ≡ starved_of old))
+      ⊎ ((attempts_of new ≡ attempts_of old) × (starved_of new ≡ next_count (starved_of old)))
 
 -- A call that succeeds wasn't to fail, and is made whole.
-pub record Succeeds (call : Call) (old new : MemoryDisk) : Type 0 where
-  pub not_listed : is_next_listed old ≡ false
+pub record SucceedsCall (call : Call) (old new : MemoryDisk) : Type 0 where
+  pub not_injected : is_next_injected old ≡ false
   pub bytes : bytes_of new ≡ made call (bytes_of old)
   pub synced : synced_of new ≡ kept_by call (bytes_of old) (synced_of old)
-  pub calls : calls_of new ≡ calls_of old ++ call ∷ []
+  pub attempts : attempts_of new ≡ attempts_of old ++ Made call ∷ []
   pub faults : faults_of new ≡ faults_of old
   pub starved : starved_of new ≡ starved_of old
 
 -- one call of a disk in memory
-pub record Answers {T E : Type 0} (call : Call) (old new : MemoryDisk) (result : Result T E) : Type 0 where
+pub record AnswersCall {T E : Type 0} (call : Call) (old new : MemoryDisk) (result : Result T E) : Type 0 where
   pub first : first_bytes new ≡ first_bytes old
   pub failing : failing_of new ≡ failing_of old
-  pub number : number_of new ≡ next (number_of old)
-  pub ok : OnOk result (Succeeds call old new)
-  pub err : OnErr result (Fails old new)
+  pub number : number_of new ≡ next_count (number_of old)
+  pub ok : OnOk result (SucceedsCall call old new)
+  pub err : OnErr result (FailsCall call old new)

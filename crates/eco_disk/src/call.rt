@@ -1,4 +1,4 @@
-//! A call of a disk in memory, as it is kept for its replay.
+//! A call of a disk.
 use std::alloc::{AllocError, Global};
 use std::marker::Model;
 
@@ -34,7 +34,7 @@ impl Piece {
     }
 }
 
-/// A call of a disk in memory.
+/// A call of a disk.
 #[derive(Drop)]
 pub enum Call {
     Len,
@@ -45,6 +45,13 @@ pub enum Call {
     /// A cut to this length.
     Cut { len: u64 },
     Sync,
-    /// A call that was to fail. It changed nothing.
-    Refused,
+}
+
+/// A call of a disk in memory, as it is kept for its replay.
+#[derive(Drop)]
+pub enum Attempt {
+    /// It was made whole.
+    Made(Call),
+    /// It was to fail, and changed nothing.
+    Failed(Call),
 }

@@ -2,20 +2,23 @@
 ghost use Rattle.std.specs.Prelude.{◌≡◌, ◌≤◌, length, take, OnOk, OnErr};
 ghost use Rattle.eco_disk.specs.Disk.{written};
 ghost use Rattle.std.proofs.Props.{props};
-ghost use Rattle.eco_disk.specs.Past.{Agrees};
+ghost use Rattle.eco_disk.specs.Synced.{Agrees};
 
 use crate::buffer::overwrite;
-use crate::past::{Past, keep, part};
+use crate::synced::{Synced, keep, part};
 use std::alloc::AllocError;
+use std::snapshot::Snapshot;
 
 #[derive(Drop)]
 pub struct Contents {
     /// What a read gives.
     pub bytes: Vec<u8>,
-    /// None before the first change.
-    pub past: Option<Past>,
+    /// What the last sync kept; None before the first change.
+    pub synced: Option<Synced>,
+    /// What a read gave at first. It takes no memory: the proofs alone look at it.
+    pub first: Snapshot<Vec<u8>>,
 
-    ghost agrees: { Agrees bytes.items past } by { Prim.hlevel props },
+    ghost agrees: { Agrees bytes.items synced } by { Prim.hlevel props },
 }
 
 impl Contents {
@@ -26,15 +29,20 @@ impl Contents {
         ensures first { first_of result ≡ bytes.items }
         ensures kept { kept_of result ≡ bytes.items }
     {
-        Contents { bytes, past: None }
+        let first = Snapshot::of(&bytes);
+        Contents {
+            bytes,
+            synced: None,
+            first,
+        }
     }
 
     /// What the last sync that succeeded kept.
     pub fn kept(&self) -> &[u8]
         ensures { result.now ≡ kept_of self.now }
     {
-        match &self.past {
-            Some(past) => &past.kept,
+        match &self.synced {
+            Some(synced) => &synced.bytes,
             None => &self.bytes,
         }
     }
@@ -46,7 +54,7 @@ impl Contents {
             (self.new.bytes.items ≡ written at piece.now self.old.bytes.items) }
         ensures err { OnErr result (self.new.bytes.items ≡ self.old.bytes.items) }
     {
-        part(&mut self.past, &self.bytes, at)?;
+        part(&mut self.synced, &self.bytes, at)?;
         overwrite(&mut self.bytes, at, piece)
     }
 
@@ -56,7 +64,7 @@ impl Contents {
         ensures ok { OnOk result (self.new.bytes.items ≡ take len self.old.bytes.items) }
         ensures err { OnErr result (self.new.bytes.items ≡ self.old.bytes.items) }
     {
-        part(&mut self.past, &self.bytes, len)?;
+        part(&mut self.synced, &self.bytes, len)?;
         self.bytes.truncate(len);
         Ok(())
     }
@@ -68,6 +76,6 @@ impl Contents {
         ensures ok { OnOk result (kept_of self.new ≡ self.old.bytes.items) }
         ensures err { OnErr result (kept_of self.new ≡ kept_of self.old) }
     {
-        keep(&mut self.past, &self.bytes)
+        keep(&mut self.synced, &self.bytes)
     }
 }

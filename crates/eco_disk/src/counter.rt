@@ -1,15 +1,15 @@
 //! The counts of a disk in memory, and which of its calls are to fail.
 ghost use Rattle.std.specs.Prelude.{◌≡◌};
-ghost use Rattle.eco_disk.specs.Disk.{HasCause};
+ghost use Rattle.eco_common.specs.Causes.{HasCause};
 
-use crate::disk::Failed;
+use eco_common::Failed;
 use std::alloc::AllocError;
 
 /// Why a call of a disk in memory failed.
 #[derive(Clone, Copy, Debug, PartialEq, Eq)]
 pub enum Cause {
     /// It was to fail.
-    Listed,
+    Injected,
     Memory,
 }
 
@@ -37,12 +37,13 @@ pub struct Counter {
 }
 
 impl Counter {
-    ghost use Rattle.eco_disk.specs.Counter.{next, is_listed, Tells};
+    ghost use Rattle.eco_disk.specs.Counter.{is_injected, Tells};
+    ghost use Rattle.eco_common.specs.Causes.{next_count};
 
     /// Counts a call, and answers whether it is to fail.
     pub fn next(&mut self) -> bool
-        ensures counts { self.new ≡ record self.old { asked = next self.old.asked } }
-        ensures listed { result ≡ is_listed self.old.failing.items self.new.asked }
+        ensures counts { self.new ≡ record self.old { asked = next_count self.old.asked } }
+        ensures injected { result ≡ is_injected self.old.failing.items self.new.asked }
     {
         self.asked = self.asked.saturating_add(1);
         self.failing.contains(&self.asked)

@@ -1,28 +1,20 @@
 //! A disk as a journal sees it: what a read gives, what a crash may leave, and how often it has failed.
-ghost use Rattle.std.specs.Prelude.{◌≡◌, ◌≤◌, ◌+◌, List, ℕ, Option, Some, length, slice_range, take, IfOk, OnOk};
-ghost use Rattle.eco_disk.specs.Disk.{OnTold, GoesOn, written, Torn, Cut, Same, Follows, IsKept, HasCause};
+ghost use Rattle.std.specs.Prelude.{◌≡◌, ◌≤◌, ◌+◌, [], ◌∷◌, List, ℕ, Option, Some, length, slice_range, take, IfOk, OnOk};
+ghost use Rattle.eco_disk.specs.Disk.{OnTold, GoesOn, written, Torn, Cut, Same, Follows, IsKept};
+ghost use Rattle.eco_common.specs.Causes.{HasCause};
+ghost use Rattle.eco_disk.specs.Calls.{Makes};
+ghost use Rattle.eco_disk.specs.declared.call.Call.{Call};
+ghost use Rattle.eco_disk.specs.declared.call.Call.TheVariants.{Len, Read, Write, Sync};
+ghost use Rattle.eco_disk.specs.declared.call.Call.TheVariants as call;
 
-use std::error::Error;
-use std::fmt::{self, Display, Formatter, Write};
-
-/// A call of a disk failed.
-#[derive(Clone, Copy, Debug, PartialEq, Eq)]
-pub struct Failed;
-
-impl Display for Failed {
-    fn fmt<W: Write>(&self, f: &mut Formatter<W>) -> fmt::Result {
-        f.write_str("the disk failed")
-    }
-}
-
-impl Error for Failed {}
+use eco_common::Failed;
 
 /// One file's worth of bytes that outlast a crash once they are synced.
 ///
-/// A disk that tells its contents promises all that its clauses say of them. One that can't know, as a file, tells
+/// A disk that reports its contents promises all that its clauses say of them. One that can't know, as a file, reports
 /// nothing (`contents` is None, the clock stands still), and then the clauses bind its count alone.
 pub trait Disk {
-    /// What a read gives, where the disk tells it. No call makes an honest disk dishonest, or a dishonest one honest.
+    /// What a read gives, where the disk reports it. No call makes an honest disk dishonest, or a dishonest one honest.
     ghost contents: { Self → Option (List ℕ) };
 
     /// The clock of moments.
@@ -34,11 +26,19 @@ pub trait Disk {
     /// How often the disk has failed. At its greatest it stands still.
     ghost faults: { Self → ℕ };
 
+    /// Its calls in order, failed ones too, where the disk reports them.
+    ghost calls: { Self → Option (List Call) };
+
+    /// How often the disk has failed.
+    fn count(&self) -> u64
+        ensures { result ≡ faults self.now };
+
     /// How many bytes there are.
     fn len(&mut self) -> Result<u64, Failed>
         ensures len { IfOk result (λ n. OnTold (contents self.old) (λ bytes. n ≡ length bytes)) }
         ensures contents { contents self.new ≡ contents self.old }
         ensures crash { Follows moment image self.old self.new Same }
+        ensures calls { Makes (calls self.old) (calls self.new) (Len ∷ []) }
         ensures cause { HasCause (faults self.old) (faults self.new) result };
 
     /// Reads as many bytes as the piece has.
@@ -49,6 +49,7 @@ pub trait Disk {
             (λ bytes. piece.new ≡ slice_range bytes at (at + length piece.old))) }
         ensures contents { contents self.new ≡ contents self.old }
         ensures crash { Follows moment image self.old self.new Same }
+        ensures calls { Makes (calls self.old) (calls self.new) (Read at (length piece.old) ∷ []) }
         ensures cause { HasCause (faults self.old) (faults self.new) result };
 
     /// Writes a piece over what is there, and beyond its end. A write that fails may have been made whole, in part or
@@ -61,15 +62,17 @@ pub trait Disk {
         ensures contents { GoesOn (contents self.old) (contents self.new)
             (Torn at (length piece.now)) }
         ensures crash { Follows moment image self.old self.new (Torn at (length piece.now)) }
+        ensures calls { Makes (calls self.old) (calls self.new) (Write at piece.now ∷ []) }
         ensures cause { HasCause (faults self.old) (faults self.new) result };
 
-    /// Cuts what stands behind a length. A cut that fails may have been made whole, in part or not at all.
+    /// Cuts what stands after a length. A cut that fails may have been made whole, in part or not at all.
     fn cut(&mut self, len: u64) -> Result<(), Failed>
         requires { OnTold (contents self.old) (λ bytes. len ≤ length bytes) }
         ensures cut { OnOk result
             (GoesOn (contents self.old) (contents self.new) (λ old new. new ≡ take len old)) }
         ensures contents { GoesOn (contents self.old) (contents self.new) (Cut len) }
         ensures crash { Follows moment image self.old self.new (Cut len) }
+        ensures calls { Makes (calls self.old) (calls self.new) (call.Cut len ∷ []) }
         ensures cause { HasCause (faults self.old) (faults self.new) result };
 
     /// Keeps what a read gives: from Ok on a crash leaves nothing else.
@@ -77,6 +80,7 @@ pub trait Disk {
         ensures kept { OnOk result (IsKept (contents self.new) (image self.new (moment self.new))) }
         ensures contents { contents self.new ≡ contents self.old }
         ensures crash { Follows moment image self.old self.new Same }
+        ensures calls { Makes (calls self.old) (calls self.new) (Sync ∷ []) }
         ensures cause { HasCause (faults self.old) (faults self.new) result };
 
     /// What a read gives is one of the images.

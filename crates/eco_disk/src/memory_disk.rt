@@ -1,16 +1,19 @@
 //! A disk in memory.
-ghost use Rattle.std.specs.Prelude.{◌≡◌, ◌≤◌, ◌+◌, [], length, slice_range, take, IfOk, OnOk};
-ghost use Rattle.eco_disk.specs.Disk.{OnTold, GoesOn, written, Torn, Cut, Same, Follows, IsKept, HasCause};
+ghost use Rattle.std.specs.Prelude.{◌≡◌, ◌≤◌, ◌+◌, [], ◌∷◌, length, slice_range, take, IfOk, OnOk};
+ghost use Rattle.eco_disk.specs.Disk.{OnTold, GoesOn, written, Torn, Cut, Same, Follows, IsKept};
+ghost use Rattle.eco_common.specs.Causes.{HasCause};
+ghost use Rattle.eco_disk.specs.Calls.{Makes};
 ghost use Rattle.eco_disk.specs.declared.call.Call.TheVariants.{Len, Read, Write, Sync};
 ghost use Rattle.eco_disk.specs.declared.call.Call.TheVariants as call;
 
-use crate::call::Call;
+use crate::call::{Attempt, Call};
 use crate::contents::Contents;
 use crate::counter::Counter;
-use crate::disk::{Disk, Failed};
+use crate::disk::Disk;
 use crate::tape::Tape;
+use eco_common::Failed;
 
-/// A disk in memory, which fails at the calls that it is told.
+/// A disk in memory, which fails at the calls that it is given.
 ///
 /// It keeps what it had at first and each call, and from these its images at every moment follow. A call that is to
 /// fail changes nothing, and neither does one that finds no memory: that counts as its fault.
@@ -21,7 +24,7 @@ pub struct MemoryDisk {
 }
 
 impl MemoryDisk {
-    ghost use Rattle.eco_disk.specs.MemoryDisk.{bytes_of, synced_of, first_bytes, calls_of, faults_of, starved_of, failing_of, number_of};
+    ghost use Rattle.eco_disk.specs.MemoryDisk.{bytes_of, synced_of, first_bytes, attempts_of, faults_of, starved_of, failing_of, number_of};
 
     /// A disk with these bytes, all of them kept. The calls with these numbers fail, counted from 1.
     pub fn new(bytes: Vec<u8>, failing: Vec<u64>) -> Self
@@ -29,7 +32,7 @@ impl MemoryDisk {
         ensures synced { synced_of result ≡ bytes.items }
         ensures first { first_bytes result ≡ bytes.items }
         ensures failing { failing_of result ≡ failing.items }
-        ensures calls { calls_of result ≡ [] }
+        ensures calls { attempts_of result ≡ [] }
         ensures number { number_of result ≡ 0 }
         ensures faults { faults_of result ≡ 0 }
         ensures starved { starved_of result ≡ 0 }
@@ -62,18 +65,11 @@ impl MemoryDisk {
         self.tape.contents.kept()
     }
 
-    /// Its calls, those aside that found no memory.
-    pub fn calls(&self) -> &[Call]
-        ensures { result.now ≡ calls_of self.now }
+    /// Its calls, and whether they were made; those aside that found no memory.
+    pub fn calls(&self) -> &[Attempt]
+        ensures { result.now ≡ attempts_of self.now }
     {
         &self.tape.calls
-    }
-
-    /// How many calls failed. At its greatest it stays.
-    pub fn faults(&self) -> u64
-        ensures { result ≡ faults_of self.now }
-    {
-        self.counter.faults
     }
 
     /// How many calls found no memory. At its greatest it stays.
@@ -85,7 +81,7 @@ impl MemoryDisk {
 }
 
 impl Disk for MemoryDisk {
-    ghost use Rattle.eco_disk.specs.MemoryDisk.{first_bytes, faults_of, contents, moment, image, Answers};
+    ghost use Rattle.eco_disk.specs.MemoryDisk.{first_bytes, faults_of, calls_of, contents, moment, image, AnswersCall};
     ghost use Rattle.eco_disk.specs.Images.{reads_now};
 
     ghost contents = { contents };
@@ -96,24 +92,34 @@ impl Disk for MemoryDisk {
 
     ghost faults = { faults_of };
 
+    ghost calls = { calls_of };
+
     ghost reads_an_image = { λ d bytes told. reads_now d.tape.calls.items (first_bytes d) d.tape.contents.bytes.items bytes d.tape.replayed told };
 
+    fn count(&self) -> u64
+        ensures { result ≡ faults_of self.now }
+    {
+        self.counter.faults
+    }
+
     fn len(&mut self) -> Result<u64, Failed>
-        ensures answers { Answers Len self.old self.new result }
+        ensures answers { AnswersCall Len self.old self.new result }
+        ensures calls { Makes (calls_of self.old) (calls_of self.new) (Len ∷ []) }
         ensures len { IfOk result (λ n. OnTold (contents self.old) (λ bytes. n ≡ length bytes)) }
         ensures contents { contents self.new ≡ contents self.old }
         ensures crash { Follows moment image self.old self.new Same }
         ensures cause { HasCause (faults_of self.old) (faults_of self.new) result }
     {
-        let listed = self.counter.next();
-        let outcome = self.tape.look(listed, Call::Len);
+        let injected = self.counter.next();
+        let outcome = self.tape.look(injected, Call::Len);
         self.counter.tell(outcome)?;
         Ok(self.tape.contents.bytes.len() as u64)
     }
 
     fn read(&mut self, at: u64, piece: &mut [u8]) -> Result<(), Failed>
         requires { OnTold (contents self.old) (λ bytes. at + length piece.old ≤ length bytes) }
-        ensures answers { Answers (Read at (length piece.old)) self.old self.new result }
+        ensures answers { AnswersCall (Read at (length piece.old)) self.old self.new result }
+        ensures calls { Makes (calls_of self.old) (calls_of self.new) (Read at (length piece.old) ∷ []) }
         ensures read { OnOk result
             (OnTold (contents self.old)
             (λ bytes. piece.new ≡ slice_range bytes at (at + length piece.old))) }
@@ -121,9 +127,9 @@ impl Disk for MemoryDisk {
         ensures crash { Follows moment image self.old self.new Same }
         ensures cause { HasCause (faults_of self.old) (faults_of self.new) result }
     {
-        let listed = self.counter.next();
+        let injected = self.counter.next();
         let len = piece.len();
-        let outcome = self.tape.look(listed, Call::Read { at, len });
+        let outcome = self.tape.look(injected, Call::Read { at, len });
         self.counter.tell(outcome)?;
         let at = at as usize;
         piece.copy_from_slice(&self.tape.contents.bytes[at..at + len]);
@@ -132,7 +138,8 @@ impl Disk for MemoryDisk {
 
     fn write_at(&mut self, at: u64, piece: &[u8]) -> Result<(), Failed>
         requires { OnTold (contents self.old) (λ bytes. at ≤ length bytes) }
-        ensures answers { Answers (Write at piece.now) self.old self.new result }
+        ensures answers { AnswersCall (Write at piece.now) self.old self.new result }
+        ensures calls { Makes (calls_of self.old) (calls_of self.new) (Write at piece.now ∷ []) }
         ensures written { OnOk result
             (GoesOn (contents self.old) (contents self.new)
             (λ old new. new ≡ written at piece.now old)) }
@@ -141,34 +148,36 @@ impl Disk for MemoryDisk {
         ensures crash { Follows moment image self.old self.new (Torn at (length piece.now)) }
         ensures cause { HasCause (faults_of self.old) (faults_of self.new) result }
     {
-        let listed = self.counter.next();
-        let outcome = self.tape.write(listed, at, piece);
+        let injected = self.counter.next();
+        let outcome = self.tape.write(injected, at, piece);
         self.counter.tell(outcome)
     }
 
     fn cut(&mut self, len: u64) -> Result<(), Failed>
         requires { OnTold (contents self.old) (λ bytes. len ≤ length bytes) }
-        ensures answers { Answers (call.Cut len) self.old self.new result }
+        ensures answers { AnswersCall (call.Cut len) self.old self.new result }
+        ensures calls { Makes (calls_of self.old) (calls_of self.new) (call.Cut len ∷ []) }
         ensures cut { OnOk result
             (GoesOn (contents self.old) (contents self.new) (λ old new. new ≡ take len old)) }
         ensures contents { GoesOn (contents self.old) (contents self.new) (Cut len) }
         ensures crash { Follows moment image self.old self.new (Cut len) }
         ensures cause { HasCause (faults_of self.old) (faults_of self.new) result }
     {
-        let listed = self.counter.next();
-        let outcome = self.tape.cut(listed, len);
+        let injected = self.counter.next();
+        let outcome = self.tape.cut(injected, len);
         self.counter.tell(outcome)
     }
 
     fn sync(&mut self) -> Result<(), Failed>
-        ensures answers { Answers Sync self.old self.new result }
+        ensures answers { AnswersCall Sync self.old self.new result }
+        ensures calls { Makes (calls_of self.old) (calls_of self.new) (Sync ∷ []) }
         ensures kept { OnOk result (IsKept (contents self.new) (image self.new (moment self.new))) }
         ensures contents { contents self.new ≡ contents self.old }
         ensures crash { Follows moment image self.old self.new Same }
         ensures cause { HasCause (faults_of self.old) (faults_of self.new) result }
     {
-        let listed = self.counter.next();
-        let outcome = self.tape.sync(listed);
+        let injected = self.counter.next();
+        let outcome = self.tape.sync(injected);
         self.counter.tell(outcome)
     }
 }

@@ -7,6 +7,7 @@ use Rattle.std.specs.Map.{keys_of}
 use Rattle.std.specs.String.{string_cmp}
 use Rattle.std.specs.Str.{IsUtf8}
 use Rattle.std.proofs.lemmas.Bool.Decides.{nat_tests}
+use Rattle.eco_common.specs.declared.limits.TheConstants.{MAX_MASTERS}
 use Rattle.toml.specs.Data.{Data, as_table}
 use Rattle.toml.specs.Parse.{parse_document}
 use Rattle.toml.specs.View.{view, members_view}
@@ -52,23 +53,23 @@ by_name es ms ordered h = subst (IsStrictlySortedBy (slice_cmp nat_cmp)) (sym (n
 -- ---- the limit
 
 abbrev limited : List (String Global × Value) → ℕ → Result (List MasterTables) FuncFault
-limited es n = if nat_le n 16384 then masters_of (members_view es) else Err (TooManyMasters n)
+limited es n = if nat_le n MAX_MASTERS then masters_of (members_view es) else Err (TooManyMasters n)
 
-pub no_more : (es : List (String Global × Value)) → length es ≤ 16384 → functions_of (members_view es) ≡ masters_of (members_view es)
+pub no_more : (es : List (String Global × Value)) → length es ≤ MAX_MASTERS → functions_of (members_view es) ≡ masters_of (members_view es)
 no_more es h = ap (limited es) (member_count-view es) ∙ ap (λ b. if b then masters_of (members_view es) else Err (TooManyMasters (length es))) (within (length es) h)
   where
-    within : (n : ℕ) → n ≤ 16384 → nat_le n 16384 ≡ true
+    within : (n : ℕ) → n ≤ MAX_MASTERS → nat_le n MAX_MASTERS ≡ true
     within n h = grind (arith, nat_tests)
 
-pub too_many : (es : List (String Global × Value)) (n : ℕ) → n ≡ length es → 16384 < n → functions_of (members_view es) ≡ Err (TooManyMasters n)
+pub too_many : (es : List (String Global × Value)) (n : ℕ) → n ≡ length es → MAX_MASTERS < n → functions_of (members_view es) ≡ Err (TooManyMasters n)
 too_many es n count h =
     ap (limited es) (member_count-view es ∙ sym count) ∙ ap (λ b. if b then masters_of (members_view es) else Err (TooManyMasters n)) (beyond n h)
   where
-    beyond : (n : ℕ) → 16384 < n → nat_le n 16384 ≡ false
+    beyond : (n : ℕ) → MAX_MASTERS < n → nat_le n MAX_MASTERS ≡ false
     beyond n h = grind (arith, nat_tests)
 
 -- a fault of the masters is one of the text
-pub reads_fault : {B : Type 0} (look : B → List MasterTables) (text : List ℕ) (es : List (String Global × Value)) → IsUtf8 text → parse_document text ≡ Some (members_view es) → length es ≤ 16384 → (e : FuncFault) → Gives look (masters_of (members_view es)) (Err e) → Reads text (Err e)
+pub reads_fault : {B : Type 0} (look : B → List MasterTables) (text : List ℕ) (es : List (String Global × Value)) → IsUtf8 text → parse_document text ≡ Some (members_view es) → length es ≤ MAX_MASTERS → (e : FuncFault) → Gives look (masters_of (members_view es)) (Err e) → Reads text (Err e)
 reads_fault look text es utf8 written few BadToml g = absurd (subst Sound g (sound_masters (members_view es)))
 reads_fault look text es utf8 written few (BadField m x) g = (members_view es, utf8, written, no_more es few ∙ g)
 reads_fault look text es utf8 written few (TooManyInputs m) g = (members_view es, utf8, written, no_more es few ∙ g)

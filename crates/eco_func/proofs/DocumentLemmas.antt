@@ -40,7 +40,7 @@ bound (Err e) f b h = absurd (cc)
 
 -- ---- lists
 
--- values behind those that are done
+-- values after those that are done
 abbrev pub behind : {A : Type 0} → List A → Result (List A) FuncFault → Result (List A) FuncFault
 behind done rest = rest >>= (λ more. Ok (done ++ more))
 

@@ -1,5 +1,6 @@
 -- Expressions over a master's inputs: names, then ! & ^ | in falling strength, parentheses, and blanks anywhere between.
 use Rattle.std.specs.Prelude.{ℕ, zero, suc, ◌-◌, ◌/◌, ◌%◌, ◌^◌, ◌<◌, ◌≡◌, nat_le, Bool, false, not, ◌&&◌, ◌||◌, ◌==◌, if◌then◌else◌, List, [], ◌∷◌, ◌++◌, length, map, take, drop, Option, Result, Ok, Err}
+use Rattle.std.specs.Char.{is_ascii_alphabetic, is_ascii_digit}
 use Rattle.std.specs.List.{list_any, position, position_or_len, find, range_with_len}
 use Rattle.std.specs.Option.{option_map_or}
 use Rattle.std.specs.Str.{byte, bytes_eq}
@@ -55,7 +56,7 @@ first_unknown inputs e = find (λ name. not (list_any (λ input. bytes_eq input 
 
 -- ---- how an expression is written
 
--- What reads a part of a text: its value and the text behind it, or the text from the first byte that can't go on.
+-- What reads a part of a text: its value and the text after it, or the text from the first byte that can't go on.
 abbrev pub Reader : Type 0 → Type 0
 Reader A = List ℕ → Result (A × List ℕ) (List ℕ)
 
@@ -68,24 +69,18 @@ abbrev pub behind_blanks : List ℕ → List ℕ
 behind_blanks [] = []
 behind_blanks (b ∷ bs) = if b == 32 then behind_blanks bs else b ∷ bs
 
-abbrev pub is_letter : ℕ → Bool
-is_letter b = (nat_le 65 b && nat_le b 90) || (nat_le 97 b && nat_le b 122)
-
-abbrev pub is_digit : ℕ → Bool
-is_digit b = nat_le 48 b && nat_le b 57
-
 -- a name begins with a letter or _, and goes on with letters, digits, _, [ and ]
 abbrev pub begins_name : ℕ → Bool
-begins_name b = is_letter b || b == byte "_"
+begins_name b = is_ascii_alphabetic b || b == byte "_"
 
 abbrev pub goes_on : ℕ → Bool
-goes_on b = begins_name b || is_digit b || b == byte "[" || b == byte "]"
+goes_on b = begins_name b || is_ascii_digit b || b == byte "[" || b == byte "]"
 
 abbrev pub name : Reader Expression
 name [] = Err []
 name (b ∷ bs) = let n = position_or_len (λ c. not (goes_on c)) bs in if begins_name b then Ok (Input (b ∷ take n bs), drop n bs) else Err (b ∷ bs)
 
--- a byte, behind blanks
+-- a byte, after blanks
 abbrev pub closed : Expression → Reader Expression
 closed e [] = Err []
 closed e (b ∷ bs) = if b == byte ")" then Ok (e, bs) else Err (b ∷ bs)
@@ -95,7 +90,7 @@ mark And = byte "&"
 mark Xor = byte "^"
 mark Or = byte "|"
 
--- one part, and then each further part behind the operator, at most n of them
+-- one part, and then each further part after the operator, at most n of them
 abbrev pub chain_for : ℕ → Operator → Reader Expression → Expression → List ℕ → Result (Expression × List ℕ) (List ℕ)
 chain_for zero o part left text = Ok (left, text)
 chain_for (suc n) o part left [] = Ok (left, [])

@@ -9,6 +9,7 @@ use Rattle.std.specs.List.Sorted.{IsStrictlySortedBy}
 use Rattle.std.specs.Ordering.{nat_cmp}
 use Rattle.std.specs.Cmp.Lexicographic.{slice_cmp}
 use Rattle.std.specs.Str.{IsUtf8, bytes_eq}
+use Rattle.eco_common.specs.declared.limits.TheConstants.{MAX_MASTERS}
 use Rattle.toml.specs.Data.{Data, Items, no_items, item, Members, no_members, member, get, as_str, as_array, as_table}
 use Rattle.toml.specs.Parse.{parse_document}
 use Rattle.eco_func.specs.declared.output.OutputFn.{OutputFn}
@@ -18,7 +19,7 @@ use Rattle.eco_func.specs.Tables.{TruthTable, row, at}
 use Rattle.eco_func.specs.Masters.{MasterTables, all_differ}
 use Rattle.eco_func.specs.Expressions.{Expression, expression_in, table_by, first_unknown}
 
--- what stands behind a reading that has no fault
+-- what stands after a reading that has no fault
 infixl 10 ◌>>=◌
 abbrev pub ◌>>=◌ : {A B : Type 0} → Result A FuncFault → (A → Result B FuncFault) → Result B FuncFault
 Ok x >>= f = f x
@@ -28,7 +29,7 @@ abbrev pub or_fault : {A : Type 0} → FuncFault → Option A → Result A FuncF
 or_fault e None = Err e
 or_fault e (Some x) = Ok x
 
--- a value behind those of the rest
+-- a value after those of the rest
 abbrev pub and_more : {A : Type 0} → A → Result (List A) FuncFault → Result (List A) FuncFault
 and_more x rest = rest >>= (λ xs. Ok (x ∷ xs))
 
@@ -142,18 +143,18 @@ masters_of (member name d ms) = master_of name d >>= (λ m. and_more m (masters_
 
 -- At most 16,384 masters.
 abbrev pub functions_of : Members → Result (List MasterTables) FuncFault
-functions_of ms = if nat_le (member_count ms) 16384 then masters_of ms else Err (TooManyMasters (member_count ms))
+functions_of ms = if nat_le (member_count ms) MAX_MASTERS then masters_of ms else Err (TooManyMasters (member_count ms))
 
 -- Names ascend by their bytes, so that none stands twice.
 abbrev pub IsByName : List MasterTables → Type 0
 IsByName functions = IsStrictlySortedBy (slice_cmp nat_cmp) (map (λ m. m.name) functions)
 
--- It is this fault, or want of memory.
+-- It is this fault, or out of memory.
 abbrev pub Blames : FuncFault → FuncFault → Type 0
 Blames said Memory = Unit {0}
 Blames said e = e ≡ said
 
--- The reading has this value, or this fault; want of memory may come with any.
+-- The reading has this value, or this fault; out of memory may be returned at any time.
 abbrev pub Gives : {A B : Type 0} → (B → A) → Result A FuncFault → Result B FuncFault → Type 0
 Gives view said (Ok x) = said ≡ Ok (view x)
 Gives view said (Err Memory) = Unit {0}

@@ -18,7 +18,7 @@ pub record IsRead (inputs : List (List ℕ)) (reader : Reader Expression) (text 
   pub is : IsPart inputs expression part
   pub shorter : length rest < length text
 
--- A part and the text behind it, or the text from the first byte that can't go on.
+-- A part and the text after it, or the text from the first byte that can't go on.
 abbrev pub Parses : List (List ℕ) → Reader Expression → List ℕ → Result (Part × Bor (List ℕ)) (Bor (List ℕ)) → Type 0
 Parses inputs reader text (Ok p) = IsRead inputs reader text p.0 p.1.now
 Parses inputs reader text (Err rest) = (reader text ≡ Err rest.now) × (length rest.now ≤ length text)

@@ -4,7 +4,7 @@ ghost use Rattle.eco_func.specs.FunctionsFile.{Blames};
 ghost use Rattle.eco_func.specs.declared.fault.FuncFault.TheVariants.{BadField, TooManyInputs, BadTable, BadExpression, UnknownInput};
 
 use crate::fault::FuncFault;
-use crate::name::Name;
+use eco_common::Name;
 use std::alloc::Global;
 
 /// `BadField`.

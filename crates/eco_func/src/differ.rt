@@ -3,8 +3,7 @@
 ghost use Rattle.std.specs.Prelude.{◌≡◌, IfOk};
 ghost use Rattle.eco_func.specs.Masters.{all_differ};
 
-use crate::memory::Memory;
-use crate::name::Name;
+use eco_common::{Memory, Name};
 use std::alloc::Global;
 use std::collections::BTreeSet;
 

@@ -5,13 +5,13 @@ ghost use Rattle.std.specs.Option.{option_or};
 ghost use Rattle.std.specs.List.{list_any, position, position_or_len};
 ghost use Rattle.std.specs.Str.{byte, bytes_eq};
 ghost use Rattle.eco_func.specs.Tables.{bit};
-ghost use Rattle.eco_func.specs.Expressions.{Expression, Input, Not, Both, is_letter as letter, is_digit as digit, begins_name as begins, goes_on as may_follow, behind_blanks as without_blanks, mark, name as name_of, closed as closes, chain as chain_of, part_of, operand as operand_of, sum, whole, expression_in, applied as apply, input_value, value_at, first_unknown};
+ghost use Rattle.eco_func.specs.Expressions.{Expression, Input, Not, Both, begins_name as begins, goes_on as may_follow, behind_blanks as without_blanks, mark, name as name_of, closed as closes, chain as chain_of, part_of, operand as operand_of, sum, whole, expression_in, applied as apply, input_value, value_at, first_unknown};
 ghost use Rattle.eco_func.specs.Parts.{IsPart, Parses, Stops, Places};
 
-use crate::name::Name;
 use crate::operator::Operator;
 use crate::part::Part;
 use crate::rows::input_column;
+use eco_common::Name;
 
 /// An expression has no more bytes.
 const MOST_BYTES: usize = 4096;
@@ -19,32 +19,20 @@ const MOST_BYTES: usize = 4096;
 /// Parentheses and `!` nest no deeper.
 const DEEPEST: u32 = 64;
 
-fn is_letter(byte: u8) -> bool
-    ensures { result ≡ letter byte }
-{
-    (b'A' <= byte && byte <= b'Z') || (b'a' <= byte && byte <= b'z')
-}
-
 fn begins_name(byte: u8) -> bool
     ensures { result ≡ begins byte }
 {
-    is_letter(byte) || byte == b'_'
+    byte.is_ascii_alphabetic() || byte == b'_'
 }
 
-fn is_digit(byte: u8) -> bool
-    ensures { result ≡ digit byte }
-{
-    b'0' <= byte && byte <= b'9'
-}
-
-/// Whether a name may have the byte behind its first.
+/// Whether a name may have the byte after its first.
 fn goes_on(byte: u8) -> bool
     ensures { result ≡ may_follow byte }
 {
-    begins_name(byte) || is_digit(byte) || byte == b'[' || byte == b']'
+    begins_name(byte) || byte.is_ascii_digit() || byte == b'[' || byte == b']'
 }
 
-/// Where a name's further bytes end, if something stands behind them.
+/// Where a name's further bytes end, if something follows them.
 fn name_end(text: &[u8]) -> Option<usize>
     ensures { result ≡ position (λ b. not (may_follow b)) text.now }
 {
@@ -174,7 +162,7 @@ fn joined<'a>(operator: Operator, left: Part<'a>, right: Part<'a>) -> Part<'a>
     }
 }
 
-/// What stands behind a byte at the beginning.
+/// What follows a byte at the beginning.
 fn behind_byte(byte: u8, text: &[u8]) -> Option<&[u8]>
     ensures { MatchOption result (Stops byte text.now) (λ rest. text.now ≡ byte ∷ rest.now) }
 {
@@ -184,7 +172,7 @@ fn behind_byte(byte: u8, text: &[u8]) -> Option<&[u8]>
     }
 }
 
-/// What stands behind an operator at the beginning.
+/// What follows an operator at the beginning.
 fn behind_mark(operator: Operator, text: &[u8]) -> Option<&[u8]>
     ensures { MatchOption result (Stops (mark operator) text.now) (λ rest. text.now ≡ mark operator ∷ rest.now) }
 {
@@ -195,7 +183,7 @@ fn behind_mark(operator: Operator, text: &[u8]) -> Option<&[u8]>
     }
 }
 
-/// A part and `)` behind it.
+/// A part and the `)` after it.
 fn closed<'a>(part: Part<'a>, text: &'a [u8]) -> Result<(Part<'a>, &'a [u8]), &'a [u8]>
     ensures { (inputs : List (List ℕ)) (e : Expression) → IsPart inputs e part.entry → Parses inputs (closes e) text.now result }
 {

@@ -3,8 +3,7 @@
 ghost use Rattle.std.specs.Prelude.{◌≡◌};
 ghost use Rattle.eco_func.specs.declared.fault.FuncFault.TheVariants.{Memory as OutOfMemory};
 
-use crate::memory::Memory;
-use crate::name::Name;
+use eco_common::{Memory, Name};
 use std::alloc::AllocFailed;
 use thiserror::Error;
 
@@ -51,7 +50,7 @@ pub enum FuncFault {
     TooManyMasters {
         count: usize,
     },
-    /// Want of memory.
+    /// Out of memory.
     #[error("memory")]
     Memory,
 }

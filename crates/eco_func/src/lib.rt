@@ -15,8 +15,6 @@ mod expression;
 mod fault;
 mod functions;
 mod master;
-mod memory;
-mod name;
 mod operator;
 mod output;
 mod part;
@@ -28,12 +26,11 @@ pub use crate::bits::read_table;
 pub use crate::fault::FuncFault;
 pub use crate::functions::Functions;
 pub use crate::master::MasterFn;
-pub use crate::memory::Memory;
-pub use crate::name::Name;
 pub use crate::output::OutputFn;
 pub use crate::read::read_functions;
 pub use crate::rows::{input_column, low_rows};
 pub use crate::table::Table;
+pub use eco_common::{Memory, Name};
 
 /// A law of tables: bit `i` of the row of a list of bits is bit `i` of the list.
 pub fn rows_are_bits()

@@ -5,9 +5,8 @@ ghost use Rattle.std.specs.List.{list_any, list_all};
 ghost use Rattle.std.specs.Str.{bytes_eq};
 ghost use Rattle.eco_func.specs.Masters.{is_master, all_differ, pins};
 
-use crate::memory::Memory;
-use crate::name::Name;
 use crate::output::OutputFn;
+use eco_common::{Memory, Name};
 use std::alloc::Global;
 use std::marker::Model;
 use std::sync::Arc;

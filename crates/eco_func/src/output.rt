@@ -1,7 +1,7 @@
 //! An output of a master.
 
-use crate::name::Name;
 use crate::table::Table;
+use eco_common::Name;
 
 /// An output pin and the table of its value over the master's inputs.
 #[derive(Drop)]

@@ -8,10 +8,8 @@ ghost use Rattle.eco_func.specs.Masters.{is_master};
 use crate::document::read_masters;
 use crate::fault::FuncFault;
 use crate::functions::Functions;
+use eco_common::MAX_MASTERS;
 use std::alloc::Global;
-
-/// A functions file has no more masters.
-const MOST_MASTERS: usize = 16_384;
 
 /// The functions that a text gives: a TOML document with a table per master, each output a table of 0 and 1 or an
 /// expression. Else its first fault.
@@ -29,7 +27,7 @@ pub fn read_functions(alloc: Global, text: &[u8]) -> Result<Functions, FuncFault
         }
     };
     let count = document.len();
-    if MOST_MASTERS < count {
+    if MAX_MASTERS < count {
         return Err(FuncFault::TooManyMasters { count });
     }
     let masters = read_masters(alloc, &document)?;

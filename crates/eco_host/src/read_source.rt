@@ -1,6 +1,7 @@
 //! A source over a reader of the system.
 
-use eco_text::{Failed, Source};
+use eco_common::Failed;
+use eco_text::Source;
 use std::io::Read;
 
 /// Reads, and counts the reads that failed. It tells nothing of its bytes.

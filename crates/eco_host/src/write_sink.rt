@@ -1,6 +1,7 @@
 //! A sink over a writer of the system.
 
-use eco_text::{Failed, Sink};
+use eco_common::Failed;
+use eco_text::Sink;
 use std::io::Write;
 
 /// Writes, and counts the calls that failed. It tells nothing of its bytes.

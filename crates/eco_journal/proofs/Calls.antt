@@ -1,10 +1,12 @@
 -- What each change of the disk makes of a journal's form.
 use Rattle.std.proofs.Common.{◌≡◌, ℕ, ◌+◌, List, [], ◌∷◌, ◌++◌, length, take, sym, ap, subst, ◌∙◌, arith, length-append}
 use Rattle.eco_disk.specs.Disk.{Torn, Cut, written}
-use Rattle.eco_journal.specs.Layout.{IsHead, IsPayload, ArePayloads, Stores, StoresOr, front, behind}
+use Rattle.eco_journal.specs.Layout.{IsHead, IsPayload, ArePayloads, front, behind}
+use Rattle.eco_journal.specs.Unfinished.{StoresOnly, StoresOr}
 use Rattle.eco_journal.specs.Sound.{IsClosed, IsTornGate}
 use Rattle.eco_journal.proofs.Steps.{torn_behind, torn_gate, cut_behind, cut_done, written_behind, written_gate}
-use Rattle.eco_journal.proofs.Forms.{stores_closed, stores_gate, front-push}
+use Rattle.eco_journal.proofs.Forms.{front-push}
+use Rattle.eco_journal.proofs.Unfinished.{closed_only, gate_or}
 
 module _ (start : List ℕ) (gate : ℕ) (gate_is : gate ≡ length start) where
   pub closed_step : (n : ℕ) (d x : List ℕ) → IsClosed start d → Torn (gate + 1) n d x → IsClosed start x
@@ -38,11 +40,11 @@ settled_closed start x is = ([], is)
 
 -- the entries of each form
 module _ (digest head : List ℕ) (is : IsHead digest head) (payloads : List (List ℕ)) (are : ArePayloads payloads) where
-  pub closed_stores : (x : List ℕ) → IsClosed (front head payloads) x → Stores digest payloads x
-  closed_stores x was = subst (Stores digest payloads) (sym was.1) (stores_closed digest head is payloads was.0 are)
+  pub closed_stores : (x : List ℕ) → IsClosed (front head payloads) x → StoresOnly digest payloads x
+  closed_stores x was = subst (StoresOnly digest payloads) (sym was.1) (closed_only digest head is payloads was.0 are)
 
   pub torn_stores : (payload : List ℕ) → IsPayload payload → (x : List ℕ) → IsTornGate (front head payloads) payload x → StoresOr digest payloads payload x
-  torn_stores payload one x was = subst (StoresOr digest payloads payload) (sym was.1) (stores_gate digest head is payloads payload was.0 are one)
+  torn_stores payload one x was = subst (StoresOr digest payloads payload) (sym was.1) (gate_or digest head is payloads payload was.0 are one)
 
 -- where the gate comes to lie
 pub gate-push : (digest head : List ℕ) → (is : IsHead digest head) → (payloads : List (List ℕ)) (payload : List ℕ) → length (front head (payloads ++ payload ∷ [])) ≡ length (front head payloads) + length (behind payload)

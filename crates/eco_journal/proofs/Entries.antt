@@ -7,8 +7,8 @@ use Rattle.std.proofs.lemmas.List.{take_at}
 use Rattle.std.proofs.lemmas.Nat.{from_be_bytes-to_be_bytes_4}
 use Rattle.std.proofs.lemmas.Bool.{le-leb, and_from}
 use Rattle.std.proofs.lemmas.Bool.Decides.{nat_tests}
-use Rattle.eco_journal.specs.Layout.{Listed, IsPayload, ArePayloads, IsHead, magic, entry, fits, listed, listed_entry, payloads_of, bad_place}
-use Rattle.eco_journal.specs.Layout.Listed.{stops, bad, entry_then}
+use Rattle.eco_journal.specs.Layout.{EntryList, IsPayload, ArePayloads, IsHead, magic, entry, fits, listed, listed_entry, payloads_of, bad_place}
+use Rattle.eco_journal.specs.Layout.EntryList.{stops, bad, entry_then}
 
 pub listed_skip : (n place : ℕ) (xs ys : List ℕ) → length xs ≡ n → listed n place (xs ++ ys) ≡ listed 0 (place + n) ys
 listed_skip zero place [] ys is = ap (λ p. listed 0 p ys) (omega arith)
@@ -26,7 +26,7 @@ pub listed_whole : (place : ℕ) (payload ys : List ℕ) → IsPayload payload �
 listed_whole place payload ys is more =
     let size : length payload < 2 ^ 32 = omega (arith, is.1) in
     let rest = to_be_bytes w32 (length payload) ++ (payload ++ ys) in
-    let others : ℕ → Listed = λ n. listed n (place + 1) rest in
+    let others : ℕ → EntryList = λ n. listed n (place + 1) rest in
     let read : listed 0 place (entry payload ++ ys) ≡ listed_entry place rest (length payload) others =
     ap (λ n. listed_entry place rest n others) (from_be_bytes-to_be_bytes_4 (length payload) size) in
     let fit : listed_entry place rest (length payload) others ≡ entry_then (take (length payload) (payload ++ ys)) (others (length payload + 4)) =

@@ -1,13 +1,13 @@
 -- The forms that a journal's bytes may have, and the entries of each.
-use Rattle.std.proofs.Common.{◌≡◌, ◌≢◌, ℕ, ◌≤◌, List, [], ◌∷◌, ◌++◌, length, take, drop, get_or, Some, None, Bool, true, false, refl, sym, ap, subst, ◌∙◌, arith, append_assoc, length-append, inl, inr, if◌then◌else◌, ◌==◌, ◌&&◌, ◌||◌, not, nat_le}
+use Rattle.std.proofs.Common.{◌≡◌, ◌≢◌, ℕ, ◌≤◌, List, [], ◌∷◌, ◌++◌, length, take, drop, get_or, Some, None, Bool, true, false, refl, sym, ap, subst, ◌∙◌, arith, append_assoc, length-append, inl, inr, ◌⊎◌, if◌then◌else◌, ◌==◌, ◌&&◌, ◌||◌, not, nat_le}
 use Rattle.std.specs.List.{flat_map}
 use Rattle.std.specs.Str.{bytes_eq}
 use Rattle.std.proofs.lemmas.List.{drop_at, append-nil}
 use Rattle.std.proofs.lemmas.List.Concat.{flat_map-append}
 use Rattle.std.proofs.lemmas.Bool.{le-leb, lt-leb, and_right, cases_eq, ne_eqb}
-use Rattle.eco_journal.specs.Layout.{IsWhole, IsPayload, ArePayloads, IsHead, Stores, StoresOr, magic, entry, behind, front, listed, payloads_of, bad_place, is_fresh, has_header, entries, bad_record}
+use Rattle.eco_journal.specs.Layout.{IsWholeJournal, IsPayload, ArePayloads, IsHead, Stores, magic, entry, behind, front, listed, payloads_of, bad_place, is_fresh, has_header, entries, bad_record}
 use Rattle.eco_journal.specs.Layout.IsTail.{closed, torn_gate}
-use Rattle.eco_journal.specs.Layout.IsWhole.{tiny, unopened, headed, listing}
+use Rattle.eco_journal.specs.Layout.IsWholeJournal.{tiny, unopened, headed, listing}
 use Rattle.eco_journal.proofs.Entries.{listed_all, head_size}
 
 -- an open header, and then some bytes
@@ -52,7 +52,7 @@ module _ (digest head : List ℕ) (is : IsHead digest head) where
       ∙ bad_behind digest head is (flat_map entry payloads ++ gate ∷ rest) (omega (arith, length-append (flat_map entry payloads) (gate ∷ rest)))
       ∙ (listed_all 41 payloads gate rest are shut).1
 
-  -- a closed gate ends the entries, whatever stands behind it
+  -- a closed gate ends the entries, whatever stands after it
   pub stores_closed : (payloads : List (List ℕ)) (rest : List ℕ) → ArePayloads payloads → Stores digest payloads (front head payloads ++ 0 ∷ rest)
   stores_closed payloads rest are = record {
     whole = listing head payloads (0 ∷ rest) is are (closed rest);
@@ -73,8 +73,9 @@ module _ (digest head : List ℕ) (is : IsHead digest head) where
   payloads-push [] payload are one = (one, tt)
   payloads-push (p ∷ payloads) payload are one = (are.0, payloads-push payloads payload are.1 one)
 
-  -- a whole entry behind any gate counts or it doesn't
-  pub stores_gate : (payloads : List (List ℕ)) (payload : List ℕ) (gate : ℕ) → ArePayloads payloads → IsPayload payload → StoresOr digest payloads payload (front head payloads ++ gate ∷ behind payload)
+  -- a whole entry after any gate counts or it doesn't
+  pub stores_gate : (payloads : List (List ℕ)) (payload : List ℕ) (gate : ℕ) → ArePayloads payloads → IsPayload payload
+      → Stores digest payloads (front head payloads ++ gate ∷ behind payload) ⊎ Stores digest (payloads ++ payload ∷ []) (front head payloads ++ gate ∷ behind payload)
   stores_gate payloads payload gate are one = elim (cases_eq gate 1) [
     | inl is_open ↦
         let pushed = stores_closed (payloads ++ payload ∷ []) [] (payloads-push payloads payload are one) in
@@ -87,7 +88,7 @@ module _ (digest head : List ℕ) (is : IsHead digest head) where
     })
   ]
 
-  -- a header behind any gate has no entries
+  -- a header after any gate has no entries
   pub stores_headed : (gate : ℕ) → Stores digest [] (gate ∷ head ++ 0 ∷ [])
   stores_headed gate = record {
     whole = headed gate head is;
@@ -120,7 +121,7 @@ stores_unopened digest rest short = record {
     or_true false = refl
 
 -- whole bytes have entries
-pub whole_entries : (digest bytes : List ℕ) → IsWhole digest bytes → (payloads : List (List ℕ)) × (entries bytes ≡ Some payloads)
+pub whole_entries : (digest bytes : List ℕ) → IsWholeJournal digest bytes → (payloads : List (List ℕ)) × (entries bytes ≡ Some payloads)
 whole_entries digest _ (tiny bytes short) = ([], (stores_tiny digest bytes short).entries_are)
 whole_entries digest _ (unopened rest short) = ([], (stores_unopened digest rest short).entries_are)
 whole_entries digest _ (headed gate head is) = ([], (stores_headed digest head is gate).entries_are)

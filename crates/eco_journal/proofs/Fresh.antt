@@ -5,27 +5,29 @@ use Rattle.std.specs.List.{flat_map}
 use Rattle.std.proofs.lemmas.Bool.{both_ways, or_cases, and_parts, leb-true}
 use Rattle.eco_disk.specs.Disk.{Torn, written, Passes, During, Has, GoesOn, IsKept}
 use Rattle.eco_disk.proofs.Moments.{moves, has_kept, during_also}
-use Rattle.eco_journal.specs.Layout.{IsHead, IsWhole, IsTail, Stores, front, is_fresh, has_header, entries, payloads_of, listed, entry}
+use Rattle.eco_journal.specs.Layout.{IsHead, IsWholeJournal, IsTail, front, is_fresh, has_header, entries, payloads_of, listed, entry}
 use Rattle.eco_journal.specs.Sound.{IsSound}
 use Rattle.eco_journal.specs.declared.standing.Standing.TheVariants.{Settled}
 use Rattle.eco_journal.specs.Layout.IsTail.{closed, torn_gate}
-use Rattle.eco_journal.specs.Layout.IsWhole.{tiny, unopened, headed, listing}
-use Rattle.eco_journal.specs.Opening.{IsUnopened, IsBeginning}
-use Rattle.eco_journal.specs.declared.opening.Beginning.TheVariants.{Fresh}
+use Rattle.eco_journal.specs.Layout.IsWholeJournal.{tiny, unopened, headed, listing}
+use Rattle.eco_journal.specs.Start.{IsUnopened, IsBeginning, StoresAs}
+use Rattle.eco_journal.specs.Unfinished.{StoresOnly}
+use Rattle.eco_journal.specs.declared.header.Beginning.TheVariants.{Fresh}
 use Rattle.eco_journal.proofs.Entries.{head_size}
-use Rattle.eco_journal.proofs.Forms.{not_fresh, stores_tiny, stores_unopened, stores_headed}
+use Rattle.eco_journal.proofs.Forms.{not_fresh}
+use Rattle.eco_journal.proofs.Unfinished.{tiny_only, unopened_only, headed_only, whole_as}
 use Rattle.eco_journal.proofs.Steps.{torn_behind, written_behind, written_gate}
 use Rattle.eco_journal.proofs.Steps as steps
 
--- a header behind some gate, and no more
+-- a header after some gate, and no more
 abbrev pub IsHeaded : List ℕ → List ℕ → Type 0
 IsHeaded head bytes = (gate : ℕ) × (bytes ≡ gate ∷ head ++ 0 ∷ [])
 
-pub unopened_stores : (digest x : List ℕ) → IsUnopened x → Stores digest [] x
-unopened_stores digest x was = subst (Stores digest []) (sym was.1) (stores_unopened digest was.0 was.2)
+pub unopened_stores : (digest x : List ℕ) → IsUnopened x → StoresOnly digest [] x
+unopened_stores digest x was = subst (StoresOnly digest []) (sym was.1) (unopened_only digest was.0 was.2)
 
-pub headed_stores : (digest head : List ℕ) → IsHead digest head → (x : List ℕ) → IsHeaded head x → Stores digest [] x
-headed_stores digest head is x was = subst (Stores digest []) (sym was.1) (stores_headed digest head is was.0)
+pub headed_stores : (digest head : List ℕ) → IsHead digest head → (x : List ℕ) → IsHeaded head x → StoresOnly digest [] x
+headed_stores digest head is x was = subst (StoresOnly digest []) (sym was.1) (headed_only digest head is was.0)
 
 pub unopened_step : (d x : List ℕ) → IsUnopened d → Torn 1 41 d x → IsUnopened x
 unopened_step d x was torn =
@@ -44,16 +46,16 @@ headed_written head d x was done =
     done ∙ ap (written 0 (1 ∷ [])) was.1 ∙ written_gate [] was.0 1 (head ++ 0 ∷ []) ∙ ap (λ (l : List ℕ). 1 ∷ l ++ 0 ∷ []) (sym (append-nil head))
 
 module _ {X Y : ℕ → List ℕ → Type 0} {a b : ℕ} where
-  pub laid_behind : (digest : List ℕ) {old : Option (List ℕ)} → Has old (X a) IsUnopened → Passes a b X Y (Torn 1 41) → During a b X Y (Stores digest [])
+  pub laid_behind : (digest : List ℕ) {old : Option (List ℕ)} → Has old (X a) IsUnopened → Passes a b X Y (Torn 1 41) → During a b X Y (StoresOnly digest [])
   laid_behind digest has passes = during_also (moves has.each passes (λ x was. was) unopened_step) (unopened_stores digest)
 
-  pub laid_gate : {digest head : List ℕ} {old : Option (List ℕ)} → IsHead digest head → Has old (X a) (IsHeaded head) → Passes a b X Y (Torn 0 1) → During a b X Y (Stores digest [])
+  pub laid_gate : {digest head : List ℕ} {old : Option (List ℕ)} → IsHead digest head → Has old (X a) (IsHeaded head) → Passes a b X Y (Torn 0 1) → During a b X Y (StoresOnly digest [])
   laid_gate {digest} {head} is has passes = during_also (moves has.each passes (λ x was. was) (headed_step head)) (headed_stores digest head is)
 
   -- gate 0 is closed over bytes of some form
-  pub closed_over : {digest : List ℕ} {old : Option (List ℕ)} {T E : Type 0} → (new : Option (List ℕ)) (r : Result T E) → (G : List ℕ → Type 0) → ((d x : List ℕ) → G d → Torn 0 1 d x → G x) → ((x : List ℕ) → G x → Stores digest [] x) → ((x : List ℕ) → G x → length x ≤ 42)
+  pub closed_over : {digest : List ℕ} {old : Option (List ℕ)} {T E : Type 0} → (new : Option (List ℕ)) (r : Result T E) → (G : List ℕ → Type 0) → ((d x : List ℕ) → G d → Torn 0 1 d x → G x) → ((x : List ℕ) → G x → StoresOnly digest [] x) → ((x : List ℕ) → G x → length x ≤ 42)
       → Has old (X a) G → Passes a b X Y (Torn 0 1) → OnOk r (GoesOn old new (λ d x. x ≡ written 0 (0 ∷ []) d)) → OnOk r (IsKept new (Y b))
-      → During a b X Y (Stores digest []) × OnOk r (Has new (Y b) IsUnopened)
+      → During a b X Y (StoresOnly digest []) × OnOk r (Has new (Y b) IsUnopened)
   closed_over new (Ok v) G step stores short has passes goes kept = (
     during_also (moves has.each passes (λ x was. was) step) stores,
     has_kept has goes kept (λ d x was done. (drop 1 d, done, omega (arith, short d was, length-drop 1 d))),
@@ -80,12 +82,12 @@ tail_long tail (closed rest) = omega arith
 tail_long tail (torn_gate gate payload shut one) = omega arith
 
 module _ {X Y : ℕ → List ℕ → Type 0} {a b : ℕ} where
-  pub closed_fresh : {digest : List ℕ} {old : Option (List ℕ)} {T E : Type 0} → (new : Option (List ℕ)) (r : Result T E) (bytes : List ℕ) → IsWhole digest bytes → IsBeginning bytes (Fresh false) → Has old (X a) (λ c. c ≡ bytes) → Passes a b X Y (Torn 0 1)
-      → OnOk r (GoesOn old new (λ d x. x ≡ written 0 (0 ∷ []) d)) → OnOk r (IsKept new (Y b)) → During a b X Y (Stores digest []) × OnOk r (Has new (Y b) IsUnopened)
+  pub closed_fresh : {digest : List ℕ} {old : Option (List ℕ)} {T E : Type 0} → (new : Option (List ℕ)) (r : Result T E) (bytes : List ℕ) → IsWholeJournal digest bytes → IsBeginning bytes (Fresh false) → Has old (X a) (λ c. c ≡ bytes) → Passes a b X Y (Torn 0 1)
+      → OnOk r (GoesOn old new (λ d x. x ≡ written 0 (0 ∷ []) d)) → OnOk r (IsKept new (Y b)) → During a b X Y (StoresOnly digest []) × OnOk r (Has new (Y b) IsUnopened)
   closed_fresh {digest} new r _ (tiny bytes short) is has passes goes kept =
-      closed_over new r (λ x. length x ≤ 1) (λ d x was torn. omega (arith, was, torn.no_longer)) (stores_tiny digest) (λ x was. omega (arith, was)) (has_as (λ x same. omega (arith, ap length same, short)) has) passes goes kept
+      closed_over new r (λ x. length x ≤ 1) (λ d x was torn. omega (arith, was, torn.no_longer)) (tiny_only digest) (λ x was. omega (arith, was)) (has_as (λ x same. omega (arith, ap length same, short)) has) passes goes kept
   closed_fresh {digest} new r _ (unopened rest short) is has passes goes kept = elim is.1 [
-    | inl one ↦ closed_over new r (λ x. length x ≤ 1) (λ d x was torn. omega (arith, was, torn.no_longer)) (stores_tiny digest) (λ x was. omega (arith, was)) (has_as (λ x same. omega (arith, ap length same, one)) has) passes goes kept
+    | inl one ↦ closed_over new r (λ x. length x ≤ 1) (λ d x was torn. omega (arith, was, torn.no_longer)) (tiny_only digest) (λ x was. omega (arith, was)) (has_as (λ x same. omega (arith, ap length same, one)) has) passes goes kept
     | inr not_shut ↦ absurd (not_shut refl)
   ]
   closed_fresh {digest} new r _ (headed gate head is_head) is has passes goes kept =
@@ -108,8 +110,8 @@ begins_fresh bytes false is = is.0
 pub fresh_entries : (bytes : List ℕ) → is_fresh bytes ≡ true → entries bytes ≡ Some []
 fresh_entries bytes fresh = ap (λ b. if b then Some [] else if has_header bytes then payloads_of (listed 0 41 (drop 41 bytes)) else None) fresh
 
-pub fresh_stores : (digest bytes : List ℕ) → IsWhole digest bytes → is_fresh bytes ≡ true → Stores digest [] bytes
-fresh_stores digest bytes whole fresh = record { whole = whole; entries_are = fresh_entries bytes fresh }
+pub fresh_as : (digest bytes : List ℕ) → IsWholeJournal digest bytes → is_fresh bytes ≡ true → StoresAs digest bytes [] bytes
+fresh_as digest bytes whole fresh = whole_as digest bytes [] whole (fresh_entries bytes fresh)
 
 pub made_sound : {o : Option (List ℕ)} {leaves : List ℕ → Type 0} → (digest head : List ℕ) → IsHead digest head → Has o leaves (λ c. c ≡ front head [] ++ 0 ∷ []) → IsSound digest [] [] o leaves 41 Settled
 made_sound digest head is has = record {

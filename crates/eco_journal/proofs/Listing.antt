@@ -7,17 +7,18 @@ use Rattle.std.proofs.lemmas.Bool.{both_ways, le-leb, cases_eq, ne_eqb}
 use Rattle.eco_disk.specs.Disk.{Has, Same, Passes, During}
 use Rattle.eco_disk.proofs.Moments.{moves}
 use Rattle.eco_journal.specs.Steps.{BadAt, IsNotBase}
-use Rattle.eco_journal.specs.Opening.{DiffersAt, IsDiskOrMemory, IsUnfinishedIn}
+use Rattle.eco_journal.specs.Start.{DiffersAt, IsDiskOrMemory, IsUnfinishedIn}
 use Rattle.eco_journal.specs.declared.faults.JournalFault.{JournalFault}
 use Rattle.eco_journal.specs.declared.faults.JournalFault.TheVariants.{Disk, BaseDiffers, BadRecord, Memory}
 use Rattle.eco_journal.specs.declared.standing.Standing.TheVariants.{Settled, Behind, AtGate}
-use Rattle.eco_journal.specs.Layout.{stops, entry_then, IsHead, IsWhole, IsTail, IsPayload, ArePayloads, Stores, front, behind, is_fresh, has_header, entry, listed, payloads_of, bad_place, entries, bad_record}
+use Rattle.eco_journal.specs.Layout.{stops, entry_then, IsHead, IsWholeJournal, IsTail, IsPayload, ArePayloads, front, behind, is_fresh, has_header, entry, listed, payloads_of, bad_place, entries, bad_record}
 use Rattle.eco_journal.specs.Layout.IsTail.{closed, torn_gate}
-use Rattle.eco_journal.specs.Layout.IsWhole.{tiny, unopened, headed, listing}
+use Rattle.eco_journal.specs.Layout.IsWholeJournal.{tiny, unopened, headed, listing}
 use Rattle.eco_journal.specs.Sound.{Form, IsSound, IsUnfinished}
 use Rattle.eco_journal.specs.Reading.{entries_then, listed_in, IsReadAll, standing_at}
 use Rattle.eco_journal.proofs.Entries.{head_size, listed_whole, closed_gate}
-use Rattle.eco_journal.proofs.Forms.{stores_closed, front-push, payloads-push, with_header, entries_behind, bad_behind}
+use Rattle.eco_journal.proofs.Forms.{with_header, entries_behind, bad_behind}
+use Rattle.eco_journal.proofs.Unfinished.{opened_stores}
 use Rattle.eco_journal.proofs.Fresh.{has_as, tail_long}
 
 pub record IsListing (digest bytes : List ℕ) : Type 0 where
@@ -37,7 +38,7 @@ fresh_short : (gate : ℕ) (bytes : List ℕ) → length bytes ≤ 42 → gate �
 fresh_short gate bytes short is shut =
     (λ i. nat_le (length bytes) 1 || (le-leb (length bytes) 42 short i && not (ne_eqb (get_or bytes 0 0) 1 (λ e. shut (is ∙ e)) i))) ∙ or_true (nat_le (length bytes) 1)
 
-pub listing_of : (digest bytes : List ℕ) → IsWhole digest bytes → is_fresh bytes ≡ false → IsListing digest bytes
+pub listing_of : (digest bytes : List ℕ) → IsWholeJournal digest bytes → is_fresh bytes ≡ false → IsListing digest bytes
 listing_of digest _ (tiny bytes short) old =
     absurd (both_ways (is_fresh bytes) old (ap (λ b. b || (nat_le (length bytes) 42 && not (get_or bytes 0 0 == 1))) (le-leb (length bytes) 1 short)))
 listing_of digest _ (unopened rest short) old =
@@ -124,7 +125,7 @@ module _ (digest bytes : List ℕ) (l : IsListing digest bytes) where
     gate_value g after is = read.gate_is ∙ (λ i. get_or (l.is i) at 0) ∙ ap (λ (t : List ℕ). get_or (front l.head l.payloads ++ t) at 0) is
         ∙ get_or_at (front l.head l.payloads) g after 0 at (sym place_is)
 
--- a closed gate, and something behind it or nothing
+-- a closed gate, and something after it or nothing
 closed_form : (start payload rest x : List ℕ) (follows : Bool) → x ≡ start ++ 0 ∷ rest → (follows ≡ false → length rest ≡ 0) → Form (if follows then Behind else Settled) start payload x
 closed_form start payload rest x true is none = (rest, is)
 closed_form start payload rest x false is none = is ∙ ap (λ (l : List ℕ). start ++ 0 ∷ l) (nil_from_length rest (none refl))
@@ -170,9 +171,16 @@ module _ (digest bytes : List ℕ) (l : IsListing digest bytes) (payloads : List
         unfinished = one;
       } in
       let standing : standing_at gate follows ≡ AtGate = ap (λ b. if b then (if follows then Behind else Settled) else AtGate) (ne_eqb gate 0 not_zero) in
-      let opened : Stores digest (l.payloads ++ payload ∷ []) (front l.head l.payloads ++ 1 ∷ behind payload) =
-      subst (Stores digest (l.payloads ++ payload ∷ [])) (sym (front-push digest l.head l.is_head l.payloads payload)) (stores_closed digest l.head l.is_head (l.payloads ++ payload ∷ []) [] (payloads-push digest l.head l.is_head l.payloads payload l.are one)) in
-      let unfinished : IsUnfinishedIn digest bytes l.payloads payload = record { start = front l.head l.payloads; gate = gate; not_closed = not_zero; is = l.is ∙ ap (λ (t : List ℕ). front l.head l.payloads ++ t) is; opened = opened } in (
+      let unfinished : IsUnfinishedIn digest bytes l.payloads payload = record {
+        head = l.head;
+        is_head = l.is_head;
+        are_payloads = l.are;
+        gate = gate;
+        not_closed = not_zero;
+        not_open = read.shut;
+        is = l.is ∙ ap (λ (t : List ℕ). front l.head l.payloads ++ t) is;
+        opened = opened_stores digest l.head l.is_head l.payloads payload l.are one;
+      } in (
         payload,
         subst (λ s. IsSound digest payloads payload o leaves at s) (sym standing) (subst (λ ps. IsSound digest ps payload o leaves at AtGate) (sym (read_are digest bytes l payloads at gate read)) sound),
         λ torn. subst (λ ps. IsUnfinishedIn digest bytes ps payload) (sym (read_are digest bytes l payloads at gate read)) unfinished,

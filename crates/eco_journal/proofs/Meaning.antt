@@ -8,9 +8,9 @@ use Rattle.std.proofs.lemmas.List.{drop-drop, get_or-drop, get_or-take, get_or_p
 use Rattle.std.proofs.lemmas.Nat.{be_bytes_4, from_be_bytes-to_be_bytes_4}
 use Rattle.std.proofs.lemmas.Bool.{both_ways, cases_eq, cases_lt, cases_Bool, and_parts, leb-true, eqb-true}
 use Rattle.std.proofs.lemmas.Slice.Eq.{bytes_eq-Decides}
-use Rattle.eco_journal.specs.Layout.{Listed, stops, bad, entry_then, IsPayload, ArePayloads, IsHead, longest, magic, entry, front, fits, listed, payloads_of, bad_place, is_fresh, has_header, entries, bad_record}
+use Rattle.eco_journal.specs.Layout.{EntryList, stops, bad, entry_then, IsPayload, ArePayloads, IsHead, longest, magic, entry, front, fits, listed, payloads_of, bad_place, is_fresh, has_header, entries, bad_record}
 use Rattle.eco_journal.specs.Reading.{entries_then}
-use Rattle.eco_journal.specs.Meaning.{AreBytes, Lists, NoEntry, HasEntries, HasBadRecord, FollowsLayout}
+use Rattle.eco_journal.specs.Meaning.{AreBytes, ListsEntries, NoEntry, HasEntries, HasBadRecord, FollowsLayout}
 use Rattle.eco_journal.specs.Meaning.HasEntries.{fresh, up_to}
 use Rattle.eco_journal.specs.Meaning.HasBadRecord.{no_header, no_entry}
 use Rattle.eco_journal.proofs.Entries.{fits_whole, listed_whole, closed_gate}
@@ -84,14 +84,14 @@ no_fit rest are none = elim (cases_Bool (fits (size_of rest) rest)) [
     by_after w = with_gate w.payload w.after w.is_payload w.more w.is
 
 -- how a list of entries ends
-pub data Ends : ℕ → List ℕ → Listed → Type 0 where
+pub data Ends : ℕ → List ℕ → EntryList → Type 0 where
   shut : (place gate : ℕ) (rest : List ℕ) → gate ≢ 1 → Ends place (gate ∷ rest) (stops (gate ∷ rest))
   broken : (place : ℕ) (rest : List ℕ) → NoEntry rest → Ends place (1 ∷ rest) (bad place)
 
 pub record Decoded (place : ℕ) (bytes : List ℕ) : Type 0 where
   pub payloads : List (List ℕ)
   pub tail : List ℕ
-  pub end : Listed
+  pub end : EntryList
   pub are : ArePayloads payloads
   pub is : bytes ≡ flat_map entry payloads ++ tail
   pub listed_is : listed 0 place bytes ≡ entries_then payloads end
@@ -170,12 +170,12 @@ opened bytes has =
       omega (arith, length-drop 41 bytes, long),
     )
 
--- what stands behind an open header
+-- what stands after an open header
 module _ (bytes : List ℕ) (are : AreBytes bytes) (has : has_header bytes ≡ true) where
   decoded : Decoded 41 (drop 41 bytes)
   decoded = decode (length (drop 41 bytes)) 41 (drop 41 bytes) (omega arith) (opened bytes has).2 (dropped_bytes 41 bytes are)
 
-  lists : (tail : List ℕ) → decoded.tail ≡ tail → Lists bytes decoded.payloads tail
+  lists : (tail : List ℕ) → decoded.tail ≡ tail → ListsEntries bytes decoded.payloads tail
   lists tail same = record {
     digest = digest_of bytes;
     size = (opened bytes has).0;
@@ -212,7 +212,7 @@ module _ (bytes : List ℕ) where
     abbrev d : Decoded 41 (drop 41 bytes)
     d = decoded bytes are has
 
-    by_end : (payloads : List (List ℕ)) (place : ℕ) (tail : List ℕ) (end : Listed) → d.tail ≡ tail → d.end ≡ end → Ends place tail end → payloads_of (entries_then d.payloads end) ≡ Some payloads → HasEntries bytes payloads
+    by_end : (payloads : List (List ℕ)) (place : ℕ) (tail : List ℕ) (end : EntryList) → d.tail ≡ tail → d.end ≡ end → Ends place tail end → payloads_of (entries_then d.payloads end) ≡ Some payloads → HasEntries bytes payloads
     by_end payloads _ _ _ same is (shut place gate rest not_open) read =
         subst (HasEntries bytes) (some_is d.payloads payloads (sym (payloads_then d.payloads (gate ∷ rest)) ∙ read)) (up_to d.payloads gate rest (lists bytes are has (gate ∷ rest) same) not_open)
     by_end payloads _ _ _ same is (broken place rest none) read = absurd (cc (none_read d.payloads place, read))
@@ -222,7 +222,7 @@ module _ (bytes : List ℕ) where
         let same : entries bytes ≡ payloads_of (listed 0 41 (drop 41 bytes)) = (λ i. if old i then Some [] else if has i then payloads_of (listed 0 41 (drop 41 bytes)) else None) in
         by_end payloads _ d.tail d.end refl refl d.ends (sym (ap payloads_of d.listed_is) ∙ sym same ∙ read)
 
-    by_bad : (at place : ℕ) (tail : List ℕ) (end : Listed) → d.tail ≡ tail → at ≡ 41 + length (flat_map entry d.payloads) → Ends at tail end → bad_place (entries_then d.payloads end) ≡ Some place → HasBadRecord bytes place
+    by_bad : (at place : ℕ) (tail : List ℕ) (end : EntryList) → d.tail ≡ tail → at ≡ 41 + length (flat_map entry d.payloads) → Ends at tail end → bad_place (entries_then d.payloads end) ≡ Some place → HasBadRecord bytes place
     by_bad _ place _ _ same is (shut at gate rest not_open) read = absurd (cc (none_bad d.payloads (gate ∷ rest), read))
     by_bad _ place _ _ same is (broken at rest none) read =
         subst (HasBadRecord bytes) (sym is ∙ some_place at place (sym (bad_then d.payloads at) ∙ read)) (no_entry d.payloads rest (lists bytes are has (1 ∷ rest) same) none)

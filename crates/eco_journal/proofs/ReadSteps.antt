@@ -5,13 +5,15 @@ use Rattle.std.specs.List.{flat_map}
 use Rattle.std.proofs.lemmas.List.{drop_more, drop-drop, append-nil}
 use Rattle.std.proofs.lemmas.List.Concat.{flat_map-append}
 use Rattle.std.proofs.lemmas.Bool.{and_parts, leb-true}
-use Rattle.eco_journal.specs.Layout.{Listed, longest, stops, bad, entry_then, entry, fits, listed, listed_entry, bad_place}
+use Rattle.eco_journal.specs.Layout.{EntryList, longest, stops, bad, entry_then, entry, fits, listed, listed_entry, bad_place}
 use Rattle.eco_journal.specs.Reading.{entries_then, listed_in, IsReadTo, IsReadAll, OnlyReads}
 use Rattle.eco_journal.specs.Steps.{BadAt}
 use Rattle.eco_journal.specs.declared.faults.JournalFault.{JournalFault}
 use Rattle.eco_journal.specs.declared.faults.JournalFault.TheVariants.{Disk, BaseDiffers, BadRecord, Memory}
 use Rattle.eco_disk.specs.Disk.{Same}
+use Rattle.eco_disk.specs.declared.call.Call.{Call}
 use Rattle.eco_disk.proofs.Moments.{passes_on}
+use Rattle.eco_disk.proofs.Called.{makes_then}
 use Rattle.eco_journal.proofs.Entries.{listed_skip, closed_gate}
 
 module _ (bytes : List ℕ) (at : ℕ) (within : at < length bytes) where
@@ -48,7 +50,7 @@ module _ (bytes : List ℕ) (at : ℕ) (within : at < length bytes) where
       let next : drop (n + 4) rest ≡ drop (at + 5 + n) bytes = drop-drop (n + 4) (at + 1) bytes ∙ ap (λ m. drop m bytes) place in
       to_listed ∙ fitted ∙ (λ i. entry_then (take n (payload i)) (skipped i)) ∙ (λ i. entry_then (take n (drop (at + 5) bytes)) (listed 0 (place i) (next i)))
 
-pub entries_push : (payloads : List (List ℕ)) (payload : List ℕ) (end : Listed) → entries_then (payloads ++ payload ∷ []) end ≡ entries_then payloads (entry_then payload end)
+pub entries_push : (payloads : List (List ℕ)) (payload : List ℕ) (end : EntryList) → entries_then (payloads ++ payload ∷ []) end ≡ entries_then payloads (entry_then payload end)
 entries_push [] payload end = refl
 entries_push (p ∷ payloads) payload end = ap (entry_then p) (entries_push payloads payload end)
 
@@ -94,8 +96,9 @@ bad_further bytes payloads at (BaseDiffers kept given) so_far is = tt
 bad_further bytes payloads at Memory so_far is = tt
 
 -- what is read by two calls after one another
-pub reads_on : {d e f : Option (List ℕ)} {X Y Z : ℕ → List ℕ → Type 0} {a b c : ℕ} → OnlyReads d e a b X Y → OnlyReads e f b c Y Z → OnlyReads d f a c X Z
+pub reads_on : {d e f : Option (List ℕ)} {X Y Z : ℕ → List ℕ → Type 0} {a b c : ℕ} {k m n : Option (List Call)} → OnlyReads d e a b X Y k m → OnlyReads e f b c Y Z m n → OnlyReads d f a c X Z k n
 reads_on first second = record {
   contents = second.contents ∙ first.contents;
   crash = passes_on Same (λ x. refl) first.crash second.crash;
+  no_changes = makes_then first.no_changes second.no_changes;
 }

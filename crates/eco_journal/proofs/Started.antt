@@ -6,7 +6,7 @@ use Rattle.eco_journal.specs.declared.journal.Journal.{Journal}
 use Rattle.eco_journal.specs.declared.entry.Entry.{Entry}
 use Rattle.eco_journal.specs.declared.faults.JournalFault.{JournalFault}
 use Rattle.eco_journal.specs.declared.faults.JournalFault.TheVariants.{Disk, Memory, BadRecord, BaseDiffers}
-use Rattle.eco_journal.specs.Opening.{Begins, IsDiskOrMemory, IsUnfinishedIn}
+use Rattle.eco_journal.specs.Start.{StartKeeps, IsDiskOrMemory, IsUnfinishedIn}
 use Rattle.eco_journal.specs.declared.standing.Standing.{Standing}
 use Rattle.eco_journal.specs.declared.standing.Standing.TheVariants.{AtGate}
 use Rattle.eco_journal.specs.Sound.{Settles}
@@ -14,7 +14,7 @@ use Rattle.eco_journal.specs.Start.{Starts}
 use Rattle.eco_journal.proofs.Starts.{begins_on}
 
 pub started : {D P : Type 0} {g : Ghosts D} → (digest bytes : List ℕ) (payloads : List (List ℕ)) (last : List ℕ) (standing : Standing) (disk mid : D) (found : Vec Entry Global) (r : Result (Journal D g × Vec Entry Global) (D × JournalFault))
-    → (standing ≡ AtGate → IsUnfinishedIn digest bytes payloads last) → P → Begins P digest bytes payloads (g.moment disk) (g.moment mid) (g.image disk) (g.image mid) → found.items ≡ payloads → Settles standing digest payloads last mid r
+    → (standing ≡ AtGate → IsUnfinishedIn digest bytes payloads last) → P → StartKeeps P digest bytes payloads (g.moment disk) (g.moment mid) (g.image disk) (g.image mid) → found.items ≡ payloads → Settles standing digest payloads last mid r
     → IfOk r (λ r. r.1 ≡ found) → (Q : D × JournalFault → Type 0) → IfErr r (λ e. (e.1 ≡ Disk) × Q e) → Starts digest bytes payloads disk r
 started digest bytes payloads last standing disk mid found (Ok r) unfinished p begins are settles entries Q fault =
     (begins_on (Unit {0}) digest bytes payloads last standing unfinished p begins settles.0, (λ i. (entries i).items) ∙ are, settles.2, (last, settles.1))

@@ -3,7 +3,7 @@ use Rattle.std.proofs.Common.{◌≡◌, ℕ, zero, suc, ◌+◌, ◌-◌, ◌�
 use Rattle.std.proofs.lemmas.List.{take_at, drop_at, drop_all, drop_more, append-nil}
 use Rattle.eco_disk.specs.Disk.{Torn, Cut, written}
 
--- a write behind a byte leaves what stands up to it
+-- a write after a byte leaves what stands up to it
 pub torn_behind : (front : List ℕ) (gate n : ℕ) (rest c : List ℕ) → Torn (length front + 1) n (front ++ gate ∷ rest) c → (r : List ℕ) × (c ≡ front ++ gate ∷ r) × (length r ≤ max (length rest) n)
 torn_behind front gate n rest c torn =
     let k = length front + 1 in
@@ -38,7 +38,7 @@ take_past [] ys m n is = let same : m ≡ n = omega (arith, is) in ap (λ (k : �
 take_past (x ∷ xs) ys zero n is = absurd (omega (arith, is))
 take_past (x ∷ xs) ys (suc m) n is = ap (λ (l : List ℕ). x ∷ l) (take_past xs ys m n (omega (arith, is)))
 
--- a cut behind a byte leaves what stands up to it
+-- a cut after a byte leaves what stands up to it
 pub cut_behind : (front : List ℕ) (gate : ℕ) (rest c : List ℕ) → Cut (length front + 1) (front ++ gate ∷ rest) c → (r : List ℕ) × (c ≡ front ++ gate ∷ r)
 cut_behind front gate rest c cut =
     let k = length front + 1 in
@@ -55,7 +55,7 @@ cut_done front gate rest =
     ap (λ (l : List ℕ). take (length front + 1) l) (sym (append_assoc front (gate ∷ []) rest))
     ∙ take_at (front ++ gate ∷ []) rest (length front + 1) (omega (arith, length-append front (gate ∷ [])))
 
--- a whole write behind a byte that is at least as long as what stands there
+-- a whole write after a byte that is at least as long as what stands there
 pub written_behind : (front : List ℕ) (gate : ℕ) (rest piece : List ℕ) → length rest ≤ length piece → written (length front + 1) piece (front ++ gate ∷ rest) ≡ front ++ gate ∷ piece
 written_behind front gate rest piece short =
     let past : drop (length front + 1 + length piece) (front ++ gate ∷ rest) ≡ [] =

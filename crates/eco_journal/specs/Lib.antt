@@ -1,9 +1,10 @@
 pub mod Layout
+pub mod Meaning
+pub mod Unfinished
 pub mod Journal
 pub mod Sound
 pub mod Reading
+pub mod Calls
 pub mod Steps
-pub mod Opening
 pub mod Start
-pub mod Meaning
-pub mod Stands
+pub mod StandsOver

@@ -8,13 +8,14 @@ use Rattle.eco_journal.specs.declared.faults.JournalFault.{JournalFault}
 use Rattle.eco_journal.specs.declared.faults.AppendFault.{AppendFault}
 use Rattle.eco_journal.specs.declared.faults.AppendFault.TheVariants.{Disk}
 use Rattle.eco_journal.specs.declared.journal.Journal.{Journal}
-use Rattle.eco_journal.specs.Layout.{IsHead, IsPayload, ArePayloads, Stores, StoresOr, front, behind}
+use Rattle.eco_journal.specs.Layout.{IsHead, IsPayload, ArePayloads, front, behind}
+use Rattle.eco_journal.specs.Unfinished.{StoresOnly, StoresOr}
 
--- a closed gate, and whatever stands behind it
+-- a closed gate, and whatever stands after it
 abbrev pub IsClosed : List ℕ → List ℕ → Type 0
 IsClosed start bytes = (rest : List ℕ) × (bytes ≡ start ++ 0 ∷ rest)
 
--- the unfinished entry stands whole behind some gate
+-- the unfinished entry stands whole after some gate
 abbrev pub IsTornGate : List ℕ → List ℕ → List ℕ → Type 0
 IsTornGate start payload bytes = (gate : ℕ) × (bytes ≡ start ++ gate ∷ behind payload)
 
@@ -39,13 +40,13 @@ pub record IsSound (digest : List ℕ) (payloads : List (List ℕ)) (payload : L
   pub has : Has contents leaves (Form standing (front head payloads) payload)
   pub unfinished : IsUnfinished standing payload
 
-abbrev pub Sound : {D : Type 0} {g : Ghosts D} → List ℕ → List (List ℕ) → List ℕ → Journal D g → Type 0
-Sound {g = g} digest payloads payload journal =
-    IsSound digest payloads payload (g.contents journal.disk) (g.image journal.disk (g.moment journal.disk)) journal.gate journal.standing
+-- the same of a journal
+pub record Sound {D : Type 0} {g : Ghosts D} (digest : List ℕ) (payloads : List (List ℕ)) (payload : List ℕ) (journal : Journal D g) : Type 0 where
+  pub is : IsSound digest payloads payload (g.contents journal.disk) (g.image journal.disk (g.moment journal.disk)) journal.gate journal.standing
 
--- what a crash may leave now is whole and has these entries
+-- what a crash may leave now is whole and has these entries, none of them unfinished
 abbrev pub Keeps : {D : Type 0} {g : Ghosts D} → List ℕ → List (List ℕ) → Journal D g → Type 0
-Keeps {g = g} digest payloads journal = (c : List ℕ) → g.image journal.disk (g.moment journal.disk) c → Stores digest payloads c
+Keeps {g = g} digest payloads journal = (c : List ℕ) → g.image journal.disk (g.moment journal.disk) c → StoresOnly digest payloads c
 
 -- at each moment of a call, each image has P
 abbrev pub Throughout : {D : Type 0} {g : Ghosts D} → Journal D g → Journal D g → (List ℕ → Type 0) → Type 0
@@ -59,8 +60,8 @@ pub record Appends {D T : Type 0} {g : Ghosts D} (digest : List ℕ) (payloads :
 
 -- what a crash may leave by how the journal stands: the unfinished entry may be there only where a write was begun at its gate
 abbrev pub Leaves : Standing → List ℕ → List (List ℕ) → List ℕ → List ℕ → Type 0
-Leaves Settled digest payloads payload bytes = Stores digest payloads bytes
-Leaves Behind digest payloads payload bytes = Stores digest payloads bytes
+Leaves Settled digest payloads payload bytes = StoresOnly digest payloads bytes
+Leaves Behind digest payloads payload bytes = StoresOnly digest payloads bytes
 Leaves AtGate digest payloads payload bytes = StoresOr digest payloads payload bytes
 
 -- what a mend does

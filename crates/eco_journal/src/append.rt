@@ -1,18 +1,22 @@
 //! Adding an entry.
 ghost use Rattle.std.specs.Prelude.{◌≡◌, ◌+◌, ◌<◌, ◌≤◌, ◌^◌, List, ℕ, length, IfOk, IfErr, IsTrue, IsFalse, IsErrOf, MatchResult};
-ghost use Rattle.eco_disk.specs.Disk.{StaysTold, Rose};
+ghost use Rattle.eco_disk.specs.Disk.{StaysTold};
+ghost use Rattle.eco_common.specs.Causes.{Rose};
+ghost use Rattle.eco_disk.specs.Calls.{MakesInOrder};
 ghost use Rattle.eco_journal.specs.Layout.{behind, IsPayload};
-ghost use Rattle.eco_journal.specs.Journal.{disk_of, is_broken};
+ghost use Rattle.eco_journal.specs.Journal.{disk_of, gate_of, is_broken};
+ghost use Rattle.eco_journal.specs.Calls.{append_calls};
 ghost use Rattle.eco_journal.specs.Sound.{Sound, Appends};
 
 use crate::faults::AppendFault;
 use crate::journal::Journal;
 use crate::kept::write_kept;
+use crate::layout::{OPEN, SHUT};
 use crate::standing::Standing;
 use eco_disk::Disk;
 use std::alloc::{AllocError, Global};
 
-// The bytes of an entry behind its gate, and the closed gate that comes next.
+// The bytes of an entry after its gate, and the closed gate that comes next.
 fn behind_gate(alloc: Global, payload: &[u8]) -> Result<Vec<u8>, AllocError>
     requires { IsPayload payload.now }
     ensures { IfOk result (λ bytes. bytes.items ≡ behind payload.now) }
@@ -20,7 +24,7 @@ fn behind_gate(alloc: Global, payload: &[u8]) -> Result<Vec<u8>, AllocError>
     let size = payload.len() as u32;
     let mut bytes = Vec::from_slice(alloc, &size.to_be_bytes())?;
     bytes.extend_from_slice(payload)?;
-    bytes.extend_from_slice(&[0])?;
+    bytes.extend_from_slice(&[SHUT])?;
     Ok(bytes)
 }
 
@@ -57,6 +61,8 @@ impl<D: Disk> Journal<D> {
         ensures memory { IsErrOf result AppendFault.Memory → self.new ≡ self.old }
         ensures broken { MatchResult result (λ _. IsFalse (is_broken self.new))
             (λ e. e ≡ AppendFault.Disk → IsTrue (is_broken self.new)) }
+        ensures calls { MakesInOrder (D.calls (disk_of self.old)) (D.calls (disk_of self.new))
+            (append_calls (gate_of self.old) payload.now) result }
         ensures told { StaysTold (D.contents (disk_of self.old)) (D.contents (disk_of self.new)) }
         ensures count { D.faults (disk_of self.old) ≤ D.faults (disk_of self.new) }
         ensures cause { IsErrOf result AppendFault.Disk
@@ -66,7 +72,7 @@ impl<D: Disk> Journal<D> {
         self.standing = Standing::Behind;
         write_kept(&mut self.disk, self.gate + 1, &unfinished)?;
         self.standing = Standing::AtGate;
-        write_kept(&mut self.disk, self.gate, &[1])?;
+        write_kept(&mut self.disk, self.gate, &[OPEN])?;
         self.gate = end;
         self.standing = Standing::Settled;
         Ok(())

@@ -36,36 +36,6 @@ impl From<Failed> for AppendFault {
     }
 }
 
-/// Why an entry wasn't read.
-#[derive(Clone, Copy, Debug, PartialEq, Eq)]
-pub enum ReadFault {
-    Disk,
-    Bad,
-    Memory,
-}
-
-impl From<AllocError> for ReadFault {
-    ghost use Rattle.std.specs.Prelude.{◌≡◌};
-    ghost use Rattle.eco_journal.specs.declared.faults.ReadFault.TheVariants.{Memory};
-
-    ghost from_gives = { λ _ e. e ≡ Memory };
-
-    fn from(_: AllocError) -> Self {
-        ReadFault::Memory
-    }
-}
-
-impl From<Failed> for ReadFault {
-    ghost use Rattle.std.specs.Prelude.{◌≡◌};
-    ghost use Rattle.eco_journal.specs.declared.faults.ReadFault.TheVariants.{Disk};
-
-    ghost from_gives = { λ _ e. e ≡ Disk };
-
-    fn from(_: Failed) -> Self {
-        ReadFault::Disk
-    }
-}
-
 /// Why a journal wasn't opened.
 #[derive(Clone, Copy, Debug, PartialEq, Eq, Error)]
 pub enum JournalFault {

@@ -4,7 +4,7 @@ use crate::standing::Standing;
 
 #[derive(Drop)]
 pub struct Found {
-    /// The place of the gate behind the last entry.
+    /// The place of the gate after the last entry.
     pub gate: u64,
     pub standing: Standing,
     /// Whether bytes follow the gate.

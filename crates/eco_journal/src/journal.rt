@@ -11,7 +11,7 @@ use eco_disk::Disk;
 #[derive(Drop)]
 pub struct Journal<D: Disk> {
     pub(crate) disk: D,
-    /// The place of the gate behind the last entry.
+    /// The place of the gate after the last entry.
     pub(crate) gate: u64,
     pub(crate) standing: Standing,
 
@@ -20,7 +20,11 @@ pub struct Journal<D: Disk> {
 }
 
 impl<D: Disk> Journal<D> {
+    ghost use Rattle.std.specs.Prelude.{◌≡◌, List, ℕ};
+    ghost use Rattle.eco_disk.specs.Disk.{Holds};
     ghost use Rattle.eco_journal.specs.Journal.{disk_of, is_broken};
+    ghost use Rattle.eco_journal.specs.Layout.{IsWholeJournal};
+    ghost use Rattle.eco_journal.specs.Sound.{Sound};
 
     /// Whether a fault of an append stands that wasn't mended.
     pub fn broken(&self) -> bool
@@ -29,9 +33,12 @@ impl<D: Disk> Journal<D> {
         self.standing != Standing::Settled
     }
 
-    /// Gives the disk back.
+    /// Gives the disk back. That of a sound journal is whole, whatever fault stands.
     pub fn end(self) -> D
-        ensures { result ≡ disk_of self }
+        ensures disk { result ≡ disk_of self }
+        ensures whole { (digest : List ℕ) (payloads : List (List ℕ)) (last : List ℕ)
+            → Sound digest payloads last self
+            → Holds D.contents D.moment D.image result (IsWholeJournal digest) }
     {
         self.disk
     }

@@ -9,12 +9,13 @@ mod append;
 mod entry;
 mod faults;
 mod found;
+mod header;
 mod journal;
 mod kept;
 mod laws;
+mod layout;
 mod look;
 mod mend;
-mod opening;
 mod reading;
 mod standing;
 mod start;
@@ -22,7 +23,10 @@ mod start;
 pub use entry::Entry;
 pub use faults::{AppendFault, JournalFault};
 pub use journal::Journal;
-pub use laws::{bytes_follow_the_layout, runs_follow_one_another};
+pub use laws::{
+    bytes_follow_the_layout, entries_have_no_bad_record, one_gate_ends_the_entries,
+    runs_follow_one_another, runs_of_calls_follow_one_another, whole_bytes_have_their_base,
+};
 
 #[cfg(test)]
 mod tests;

@@ -1,16 +1,20 @@
 //! Looking at a journal's disk.
-ghost use Rattle.std.specs.Prelude.{◌≡◌, ◌+◌, ◌<◌, ◌≤◌, ◌^◌, [], List, ℕ, Some, length, IfOk, IfErr, IsTrue, IsFalse};
-ghost use Rattle.eco_disk.specs.Disk.{StaysTold, OnTold, Holds, Rose};
-ghost use Rattle.eco_journal.specs.Layout.{IsWhole, HasBase, bad_record, entries, is_fresh};
+ghost use Rattle.std.specs.Prelude.{◌≡◌, ◌+◌, ◌<◌, ◌≤◌, ◌^◌, [], ◌++◌, List, ℕ, Some, length, IfOk, IfErr, IsTrue, IsFalse};
+ghost use Rattle.eco_disk.specs.Disk.{StaysTold, OnTold, Holds};
+ghost use Rattle.eco_common.specs.Causes.{Rose};
+ghost use Rattle.eco_journal.specs.Layout.{IsWholeJournal, HasBase, bad_record, entries, is_fresh};
 ghost use Rattle.eco_journal.specs.Steps.{BadAt};
+ghost use Rattle.eco_disk.specs.Calls.{Makes, MakesInOrder, changes_of};
+ghost use Rattle.eco_journal.specs.Calls.{clear_calls, header_calls, found_calls, fresh_calls, end_calls};
 ghost use Rattle.eco_journal.specs.Reading.{Looks, standing_at};
-ghost use Rattle.eco_journal.specs.declared.opening.Beginning.TheVariants.{Fresh};
+ghost use Rattle.eco_journal.specs.declared.header.Beginning.TheVariants.{Fresh};
 ghost use Rattle.eco_journal.specs.declared.standing.Standing.TheVariants.{Settled, AtGate};
-ghost use Rattle.eco_journal.specs.Opening.{IsBeginning, DiffersAt, AreEntries, Finds, IsDiskOrMemory, IsRefusal};
+ghost use Rattle.eco_journal.specs.Start.{IsBeginning, DiffersAt, AreEntries, Finds, IsDiskOrMemory, IsRefusal};
 
 use crate::faults::JournalFault;
 use crate::found::Found;
-use crate::opening::{Beginning, check_head, clear, header, how_it_begins, lay};
+use crate::header::{Beginning, check_head, clear, header, how_it_begins, lay};
+use crate::layout::{FIRST_GATE, SHUT};
 use crate::reading::read_entries;
 use crate::standing::Standing;
 use eco_disk::Disk;
@@ -24,7 +28,7 @@ fn make<D: Disk>(
     shut: bool,
 ) -> Result<Found, JournalFault>
     requires { IsTrue shut → OnTold (D.contents disk.old) (λ bytes. 1 ≤ length bytes) }
-    ensures crash { (bytes : List ℕ) → IsWhole digest.now bytes → IsBeginning bytes (Fresh shut)
+    ensures crash { (bytes : List ℕ) → IsWholeJournal digest.now bytes → IsBeginning bytes (Fresh shut)
         → Holds D.contents D.moment D.image disk.old (λ c. c ≡ bytes)
         → Finds digest.now bytes [] (D.contents disk.new) (D.moment disk.old) (D.moment disk.new)
         (D.image disk.old) (D.image disk.new) result }
@@ -33,6 +37,8 @@ fn make<D: Disk>(
         (λ f. OnTold (D.contents disk.new) (λ bytes. f.gate + 1 ≤ length bytes)) }
     ensures settled { IfOk result (λ f. f.standing ≡ Settled) }
     ensures none { IfOk result (λ f. f.entries.items ≡ []) }
+    ensures calls { MakesInOrder (D.calls disk.old) (D.calls disk.new)
+        (clear_calls shut ++ header_calls digest.now) result }
     ensures told { StaysTold (D.contents disk.old) (D.contents disk.new) }
     ensures no_refusal { IfErr result IsDiskOrMemory }
     ensures count { D.faults disk.old ≤ D.faults disk.new }
@@ -43,7 +49,7 @@ fn make<D: Disk>(
     clear(disk, shut)?;
     lay(disk, &header)?;
     Ok(Found {
-        gate: 41,
+        gate: FIRST_GATE,
         standing: Standing::Settled,
         follows: false,
         entries: Vec::new(alloc),
@@ -53,7 +59,7 @@ fn make<D: Disk>(
 fn standing_of(gate: u8, follows: bool) -> Standing
     ensures { result ≡ standing_at gate follows }
 {
-    if gate != 0 {
+    if gate != SHUT {
         Standing::AtGate
     } else if follows {
         Standing::Behind
@@ -70,7 +76,7 @@ fn headed<D: Disk>(
     digest: &[u8; 32],
 ) -> Result<Found, JournalFault>
     requires { OnTold (D.contents disk.old) (λ bytes. len ≡ length bytes) }
-    ensures crash { (bytes : List ℕ) (payloads : List (List ℕ)) → IsWhole digest.now bytes
+    ensures crash { (bytes : List ℕ) (payloads : List (List ℕ)) → IsWholeJournal digest.now bytes
         → IsFalse (is_fresh bytes) → entries bytes ≡ Some payloads
         → Holds D.contents D.moment D.image disk.old (λ c. c ≡ bytes)
         → Finds digest.now bytes payloads (D.contents disk.new) (D.moment disk.old)
@@ -86,7 +92,10 @@ fn headed<D: Disk>(
         → BadAt (λ place. (bad_record bytes ≡ Some place) × HasBase digest.now bytes) e)) }
     ensures differs { IfErr result
         (λ e. OnTold (D.contents disk.old) (λ bytes. DiffersAt bytes digest.now e)) }
-    ensures reads { Looks D.contents D.moment D.image disk.old disk.new }
+    ensures ended { IfOk result
+        (λ f. OnTold (D.contents disk.old)
+        (λ bytes. IsFalse (is_fresh bytes) → found_calls f ≡ end_calls bytes)) }
+    ensures reads { Looks D.contents D.moment D.image D.calls disk.old disk.new }
     ensures count { D.faults disk.old ≤ D.faults disk.new }
     ensures cause { IfErr result
         (λ e. e ≡ JournalFault.Disk → Rose (D.faults disk.old) (D.faults disk.new)) }
@@ -104,7 +113,7 @@ fn headed<D: Disk>(
 
 // What stands on a disk that was synced.
 pub fn look<D: Disk>(alloc: Global, disk: &mut D, digest: &[u8; 32]) -> Result<Found, JournalFault>
-    ensures crash { (bytes : List ℕ) (payloads : List (List ℕ)) → IsWhole digest.now bytes
+    ensures crash { (bytes : List ℕ) (payloads : List (List ℕ)) → IsWholeJournal digest.now bytes
         → entries bytes ≡ Some payloads
         → Holds D.contents D.moment D.image disk.old (λ c. c ≡ bytes)
         → Finds digest.now bytes payloads (D.contents disk.new) (D.moment disk.old)
@@ -124,6 +133,13 @@ pub fn look<D: Disk>(alloc: Global, disk: &mut D, digest: &[u8; 32]) -> Result<F
         (λ e. OnTold (D.contents disk.old) (λ bytes. DiffersAt bytes digest.now e)) }
     ensures untouched { IfErr result
         (λ e. IsRefusal e → D.contents disk.new ≡ D.contents disk.old) }
+    ensures ended { IfOk result
+        (λ f. OnTold (D.contents disk.old) (λ bytes. found_calls f ≡ end_calls bytes)) }
+    ensures calls { OnTold (D.contents disk.old)
+        (λ bytes. MakesInOrder (changes_of (D.calls disk.old)) (changes_of (D.calls disk.new))
+        (fresh_calls digest.now bytes) result) }
+    ensures refused { IfErr result
+        (λ e. IsRefusal e → Makes (changes_of (D.calls disk.old)) (changes_of (D.calls disk.new)) []) }
     ensures told { StaysTold (D.contents disk.old) (D.contents disk.new) }
     ensures count { D.faults disk.old ≤ D.faults disk.new }
     ensures cause { IfErr result

@@ -14,7 +14,9 @@ use Rattle.eco_lef.specs.declared.statement.MacroStatement.TheVariants.{Sized, P
 use Rattle.eco_lef.specs.declared.statement.LibraryStatement.{LibraryStatement}
 use Rattle.eco_lef.specs.declared.statement.LibraryStatement.TheVariants.{Defined, Other}
 use Rattle.eco_lef.specs.Known.{names_of, pin_names}
-use Rattle.eco_lef.specs.Parsing.{Parser, ◌>>=◌, then_read, then_more, give, refuse, any, begins, word, valued, pass_to, name, is_word, is_one_of, is_name, is_among, many, many_for, word_count}
+use Rattle.eco_lef.specs.Parsing.{Parser, ◌>>=◌, then_read, then_more, give, refuse, any, begins, word, valued, pass_to, name, many, many_for, word_count}
+use Rattle.eco_text.specs.Tokens.{is_word, is_one_of, is_name}
+use Rattle.eco_common.specs.NameBytes.{is_among}
 use Rattle.eco_text.specs.Numbers.{microns_of}
 use Rattle.eco_lef.specs.Grammar.{block_ends, unless_ended, pin_body, pin_of, pin, size, passed_in_macro, macro_end, macro_statement_new, macro_statement, pins_of, macro_said, macro_body, master_of, defined, pass_block, named_blocks, plain_blocks, named_block, plain_block, passed_in_library, library_end, statement_under, library_statement_new, library_statement, masters_of, value_read}
 use Rattle.eco_lef.specs.Names.{AreDistinct, HaveDistinctPins, NamesDiffer}

@@ -1,6 +1,6 @@
 -- Libraries of small texts and their first faults, by computing the definition.
 use Rattle.std.proofs.Common.{◌≡◌, [], ◌∷◌, true, false, Ok, Err, refl, codes}
-use Rattle.eco_text.specs.declared.geometry.Dir.TheVariants.{Input, Inout}
+use Rattle.eco_common.specs.declared.geometry.Dir.TheVariants.{Input, Inout}
 use Rattle.eco_lef.specs.declared.fault.LefFault.TheVariants.{Unended, TwiceNamed, TooManyMasters, ArrayBlock}
 use Rattle.eco_lef.specs.Grammar.{block_ends, output, plain_dir, direction, plain_use, supply_use, pin_use, passed_in_pin, pin_end, pin_statement, pin, size, passed_in_macro, macro_end, macro_statement_new, defined, named_block, plain_block, passed_in_library, library_end, statement_under, library_of, library_within}
 

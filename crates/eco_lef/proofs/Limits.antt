@@ -1,6 +1,7 @@
 -- What a limit on the number of macros leaves as it is.
 use Rattle.std.proofs.Common.{◌≡◌, ℕ, zero, suc, ◌+◌, ◌<◌, ◌≤◌, nat_le, ◌⊎◌, inl, inr, Bool, true, false, List, [], ◌∷◌, ◌++◌, length, Option, Some, None, Result, Ok, Err, IfOk, refl, ap, sym, subst, ◌∙◌, arith, length-append, codes, if◌then◌else◌}
 use Rattle.std.proofs.lemmas.Bool.Decides.{nat_tests}
+use Rattle.eco_common.specs.declared.limits.TheConstants.{MAX_MASTERS}
 use Rattle.eco_text.specs.Words.{Token, Walk, finished, open_quote, word_then, walk_of}
 use Rattle.eco_lef.specs.declared.fault.LefFault.{LefFault}
 use Rattle.eco_lef.specs.declared.fault.LefFault.TheVariants.{TwiceNamed, TooManyMasters, ArrayBlock, BadStatement}
@@ -9,7 +10,9 @@ use Rattle.eco_lef.specs.declared.statement.LibraryStatement.{LibraryStatement}
 use Rattle.eco_lef.specs.declared.statement.LibraryStatement.TheVariants.{Defined, Other}
 use Rattle.eco_lef.specs.declared.macro_statements.MacroBody.{MacroBody}
 use Rattle.eco_lef.specs.Known.{names_of}
-use Rattle.eco_lef.specs.Parsing.{Parser, ◌>>=◌, any, then_read, then_more, give, refuse, begins, name, pass_to, is_word, is_one_of, is_name, is_among, many, many_for, word_count}
+use Rattle.eco_lef.specs.Parsing.{Parser, ◌>>=◌, any, then_read, then_more, give, refuse, begins, name, pass_to, many, many_for, word_count}
+use Rattle.eco_text.specs.Tokens.{is_word, is_one_of, is_name}
+use Rattle.eco_common.specs.NameBytes.{is_among}
 use Rattle.eco_lef.specs.Grammar.{unless_ended, block_ends, pass_block, master_of, macro_body, defined, named_blocks, plain_blocks, named_block, plain_block, passed_in_library, library_end, statement_under, library_statement_new, library_statement, masters_of, masters, value_read}
 use Rattle.eco_lef.specs.Limits.{LimitsKeep, IsLibraryOf}
 use Rattle.eco_lef.specs.Reading.{Reading, left, Gives, as_is}
@@ -242,6 +245,6 @@ limits_keep = record {
   faults = λ most text e is. faults_said most (many [] (library_statement (nat_le most)) (walk_of text)) (many [] (library_statement (λ n. false)) (walk_of text)) e (near_text most text) is;
 }
 
-pub library_is : (text : List ℕ) (old new : Reading) (r : Result (List Master) LefFault) → left old ≡ walk_of text → Gives (as_is text) (masters (nat_le 16384) (left old)) r (left new) → IfOk r (IsLibraryOf 16384 text)
+pub library_is : (text : List ℕ) (old new : Reading) (r : Result (List Master) LefFault) → left old ≡ walk_of text → Gives (as_is text) (masters (nat_le MAX_MASTERS) (left old)) r (left new) → IfOk r (IsLibraryOf MAX_MASTERS text)
 library_is text old new (Err e) start value = tt
-library_is text old new (Ok ms) start value = limits_keep.few 16384 text ms (ap (λ u. value_read (masters (nat_le 16384) u)) (sym start) ∙ ap value_read value)
+library_is text old new (Ok ms) start value = limits_keep.few MAX_MASTERS text ms (ap (λ u. value_read (masters (nat_le MAX_MASTERS) u)) (sym start) ∙ ap value_read value)

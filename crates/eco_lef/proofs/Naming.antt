@@ -12,7 +12,7 @@ use Rattle.std.specs.declared.vec.Vec.{Vec}
 use Rattle.std.proofs.Common.{◌≡◌, ℕ, suc, Bool, true, false, ◌||◌, List, [], ◌∷◌, ◌++◌, length, map, slice_get, Option, Some, None, is_some, option_map, option_and_then, refl, ap, sym, subst, ◌∙◌, if◌then◌else◌}
 use Rattle.std.proofs.lemmas.Slice.Eq.{bytes_eq-Decides}
 use Rattle.eco_lef.specs.declared.master.Master.{Master}
-use Rattle.eco_lef.specs.Parsing.{is_among}
+use Rattle.eco_common.specs.NameBytes.{is_among}
 use Rattle.eco_lef.specs.Known.{place_of, first_place, AreNames, names_of}
 use Rattle.eco_lef.specs.Collected.{find_master}
 

@@ -7,7 +7,8 @@ use Rattle.eco_text.specs.declared.word.Word.{Word}
 use Rattle.eco_lef.specs.Grammar.{pass_block}
 use Rattle.eco_lef.specs.Reading.{Reading, left, Reads}
 use Rattle.eco_lef.proofs.Loops.{passed}
-use Rattle.eco_lef.specs.Parsing.{is_word, begins, any, choose, is_name, unused_name, pass_to, pass_to_both}
+use Rattle.eco_text.specs.Tokens.{is_word, is_name}
+use Rattle.eco_lef.specs.Parsing.{begins, any, choose, unused_name, pass_to, pass_to_both}
 
 abbrev behind : Result (Token × Walk) LefFault → Walk → Walk
 behind (Ok x) v = x.1
@@ -37,7 +38,7 @@ both_fails inside p q (word_then t u) e is = go (p t) (both_fails inside p q u e
 pub unused_is : (inside : List ℕ) (known full : Bool) (u : Walk) → begins is_name u ≡ true → known ≡ false → full ≡ false → any inside u ≡ unused_name inside known full u
 unused_is inside known full u named new room = rw (named, new, room) refl
 
--- the END that was found ends the block here, or the block goes on behind it
+-- the END that was found ends the block here, or the block goes on after it
 pub block_goes_on : (block : List ℕ) (old new : Reading) (w : Word) → Reads 1 token (pass_to block (is_word (codes "END"))) old new (Ok w) → choose (is_word block) (any block) (pass_block block) (left new) ≡ pass_block block (left old)
 block_goes_on block old new w reads = sym (both_from block (is_word (codes "END")) (is_word block) (left old) (token old.text w) (left new) reads.value)
 

@@ -1,6 +1,6 @@
 -- What statements say together, with one more.
 use Rattle.std.specs.Option.{option_or}
-use Rattle.eco_text.specs.declared.geometry.Dir.{Dir}
+use Rattle.eco_common.specs.declared.geometry.Dir.{Dir}
 use Rattle.std.proofs.Common.{◌≡◌, Bool, List, [], ◌∷◌, ◌++◌, map, Option, Some, None, refl, ap, ◌∙◌}
 use Rattle.eco_lef.specs.declared.statement.Size.{Size}
 use Rattle.eco_lef.specs.declared.master.MasterPin.{MasterPin}
@@ -12,7 +12,7 @@ use Rattle.eco_lef.specs.declared.statement.MacroStatement.{MacroStatement}
 use Rattle.eco_lef.specs.declared.statement.MacroStatement.TheVariants.{Sized, Pinned, Other as OtherInMacro}
 use Rattle.eco_lef.specs.declared.statement.LibraryStatement.{LibraryStatement}
 use Rattle.eco_lef.specs.declared.statement.LibraryStatement.TheVariants.{Defined, Other as OtherInLibrary}
-use Rattle.eco_lef.specs.Parsing.{first_some}
+use Rattle.eco_common.specs.Options.{first_some}
 use Rattle.eco_lef.specs.Grammar.{dir_said, supply_said, pin_said, size_said, pins_of, macro_said, masters_of}
 use Rattle.eco_lef.specs.Collected.{also_in_pin, also_in_macro}
 use Rattle.eco_lef.proofs.Naming.{map_push, or_none}

@@ -1,4 +1,4 @@
--- Faults that are told.
+-- Faults that are reported.
 use Rattle.std.proofs.Common.{◌≡◌, ℕ, List, Result, Err, ap, subst, ◌∙◌}
 use Rattle.eco_lef.specs.declared.fault.LefFault.{LefFault}
 use Rattle.eco_lef.specs.declared.fault.LefFault.TheVariants.{Text, Unended, TwiceNamed, TooManyMasters, ArrayBlock, BadStatement, Memory}

@@ -3,7 +3,7 @@ use Rattle.std.specs.List.{list_all}
 use Rattle.std.proofs.Common.{◌≡◌, ℕ, zero, suc, ◌+◌, ◌==◌, ◌&&◌, ◌||◌, not, Bool, true, false, List, [], ◌∷◌, ◌++◌, length, Option, Some, None, Result, Ok, Err, refl, ap, sym, subst, ◌∙◌, true≢false, codes, if◌then◌else◌}
 use Rattle.std.proofs.lemmas.Bool.{and_parts}
 use Rattle.std.proofs.lemmas.List.Folds.{list_all-append}
-use Rattle.eco_text.specs.declared.geometry.Dir.TheVariants.{Input, Output, Inout}
+use Rattle.eco_common.specs.declared.geometry.Dir.TheVariants.{Input, Output, Inout}
 use Rattle.eco_text.specs.Numbers.{microns_of}
 use Rattle.eco_text.specs.Words.{Token, Walk, Mode, finished, open_quote, word_then, between, comment, plain, quote, is_blank, plain_word, quoted_word, step, walk, walk_of, ◌+++◌}
 use Rattle.eco_lef.specs.declared.fault.LefFault.{LefFault}
@@ -16,9 +16,11 @@ use Rattle.eco_lef.specs.declared.statement.MacroStatement.TheVariants.{Sized, P
 use Rattle.eco_lef.specs.declared.statement.LibraryStatement.{LibraryStatement}
 use Rattle.eco_lef.specs.declared.statement.LibraryStatement.TheVariants.{Defined, Other as OtherInLibrary}
 use Rattle.eco_lef.specs.Known.{names_of, pin_names}
-use Rattle.eco_lef.specs.Parsing.{Parser, ◌>>=◌, then_read, then_more, give, refuse, any, pass_one, begins, choose, next, word, valued, valued_as, bytes_ahead, pass_to, pass_to_both, new_name, is_word, is_one_of, is_name, is_among, many, many_for, word_count}
+use Rattle.eco_lef.specs.Parsing.{Parser, ◌>>=◌, then_read, then_more, give, refuse, any, pass_one, begins, choose, next, word, valued, valued_as, bytes_ahead, pass_to, pass_to_both, new_name, many, many_for, word_count}
+use Rattle.eco_text.specs.Tokens.{is_word, is_one_of, is_name, can_name}
+use Rattle.eco_common.specs.NameBytes.{is_among}
 use Rattle.eco_lef.specs.Grammar.{block_ends, unless_ended, output, plain_dir, dir, direction, plain_use, supply_use, use_said, pin_use, passed_in_pin, pin_end, pin_statement, pin_said, pin_body, pin_of, pin, size, passed_in_macro, macro_end, macro_statement_new, macro_statement, pins_of, macro_said, macro_body, master_of, defined, named_blocks, plain_blocks, pass_block, named_block, plain_block, passed_in_library, library_end, statement_under, library_statement_new, library_statement, masters_of, masters, value_read}
-use Rattle.eco_lef.specs.Names.{can_name, are_words, NamesAreWords}
+use Rattle.eco_lef.specs.Names.{are_words, NamesAreWords}
 
 both : (a b : Bool) → a ≡ true → b ≡ true → (a && b) ≡ true
 both true b p q = q

@@ -4,8 +4,8 @@ use Rattle.std.specs.Prelude.{ℕ, nat_le, Bool, true, false, List, [], ◌∷�
 use Rattle.std.specs.Option.{unwrap_or}
 use Rattle.eco_text.specs.Numbers.{microns_of}
 use Rattle.eco_text.specs.Words.{Token, Walk, finished, open_quote, word_then, walk_of}
-use Rattle.eco_text.specs.declared.geometry.Dir.{Dir}
-use Rattle.eco_text.specs.declared.geometry.Dir.TheVariants.{Input, Output, Inout}
+use Rattle.eco_common.specs.declared.geometry.Dir.{Dir}
+use Rattle.eco_common.specs.declared.geometry.Dir.TheVariants.{Input, Output, Inout}
 use Rattle.eco_text.specs.declared.word.TextFault.TheVariants.{OpenQuote}
 use Rattle.eco_lef.specs.declared.fault.LefFault.{LefFault}
 use Rattle.eco_lef.specs.declared.fault.LefFault.TheVariants.{Text, ArrayBlock, BadStatement}
@@ -21,7 +21,10 @@ use Rattle.eco_lef.specs.declared.statement.MacroStatement.TheVariants.{Sized, P
 use Rattle.eco_lef.specs.declared.statement.LibraryStatement.{LibraryStatement}
 use Rattle.eco_lef.specs.declared.statement.LibraryStatement.TheVariants.{Defined, Other as OtherInLibrary}
 use Rattle.eco_lef.specs.Known.{names_of, pin_names}
-use Rattle.eco_lef.specs.Parsing.{Parser, ◌>>=◌, give, refuse, any, pass_one, choose, is_word, is_one_of, word, name, new_name, is_among, valued, pass_to, pass_to_both, many, first_some}
+use Rattle.eco_lef.specs.Parsing.{Parser, ◌>>=◌, give, refuse, any, pass_one, choose, word, name, new_name, valued, pass_to, pass_to_both, many}
+use Rattle.eco_text.specs.Tokens.{is_word, is_one_of}
+use Rattle.eco_common.specs.NameBytes.{is_among}
+use Rattle.eco_common.specs.Options.{first_some}
 
 -- ---- blocks
 
@@ -36,7 +39,7 @@ unless_ended other false = Some other
 
 -- ---- in a pin
 
--- OUTPUT, with TRISTATE behind it or not
+-- OUTPUT, with TRISTATE after it or not
 unfoldable pub output : List ℕ → Parser Dir
 output inside = any inside >>= λ w. choose (is_word (codes "TRISTATE")) (any inside >>= λ t. give Output) (give Output)
 

@@ -1,9 +1,11 @@
 -- Laws of names in a library.
 use Rattle.std.specs.Prelude.{◌≡◌, ℕ, ◌==◌, ◌&&◌, ◌||◌, not, Bool, true, false, List, [], ◌∷◌, Ok}
 use Rattle.std.specs.List.{list_all}
+use Rattle.eco_text.specs.Tokens.{can_name}
 use Rattle.eco_text.specs.Words.{plain_word}
 use Rattle.eco_lef.specs.declared.master.Master.{Master}
-use Rattle.eco_lef.specs.Parsing.{is_among, is_name}
+use Rattle.eco_common.specs.NameBytes.{is_among}
+use Rattle.eco_text.specs.Tokens.{is_name}
 use Rattle.eco_lef.specs.Known.{names_of, pin_names}
 use Rattle.eco_lef.specs.Grammar.{library_of}
 
@@ -24,12 +26,6 @@ HaveOwnNames masters = AreDistinct (names_of masters) × HaveDistinctPins master
 -- In a library no two masters have one name, and no two pins of a master.
 abbrev pub NamesDiffer : Type 0
 NamesDiffer = (text : List ℕ) (masters : List Master) → library_of text ≡ Ok masters → HaveOwnNames masters
-
--- Bytes that are read as a name where they stand as a word: they have a name's form, and neither a comment nor a quoted word
--- begins with them.
-abbrev pub can_name : List ℕ → Bool
-can_name [] = false
-can_name (b ∷ bs) = not (b == 35 || b == 34) && is_name (plain_word 0 (b ∷ bs) 0)
 
 -- a master's name and its pins' names are read as names where they stand
 abbrev pub are_words : Master → Bool

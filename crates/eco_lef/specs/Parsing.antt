@@ -1,14 +1,15 @@
--- Reading words from left to right: a value and the words behind it, or the first fault.
--- Each reading is told the name of the block that it stands inside: a text that is cut off there tells this name.
+-- Reading words from left to right: a value and the words after it, or the first fault.
+-- Each reading is told the name of the block that it stands inside: a text that is cut off there reports this name.
 use Rattle.std.specs.Prelude.{ℕ, zero, suc, ◌==◌, nat_le, ◌&&◌, ◌||◌, not, Bool, false, List, [], ◌∷◌, ◌++◌, length, Option, Some, None, Result, Ok, Err, if◌then◌else◌}
 use Rattle.std.specs.List.{list_all, list_any}
 use Rattle.std.specs.Str.{bytes_eq, byte}
+use Rattle.eco_text.specs.Tokens.{is_word, is_name}
 use Rattle.eco_text.specs.Words.{Token, Walk, finished, open_quote, word_then}
 use Rattle.eco_text.specs.declared.word.TextFault.TheVariants.{OpenQuote}
 use Rattle.eco_lef.specs.declared.fault.LefFault.{LefFault}
 use Rattle.eco_lef.specs.declared.fault.LefFault.TheVariants.{Text, Unended, TwiceNamed, TooManyMasters, BadStatement}
 
--- what reads a value: the value and the words behind it, or the first fault
+-- what reads a value: the value and the words after it, or the first fault
 abbrev pub Parser : Type 0 → Type 0
 Parser A = Walk → Result (A × Walk) LefFault
 
@@ -59,35 +60,11 @@ choose p yes' no' u = if begins p u then yes' u else no' u
 abbrev pub next : List ℕ → (Token → Bool) → Parser Token
 next inside p = choose p (any inside) (refuse inside BadStatement)
 
--- the word is this one, and not quoted
-abbrev pub is_word : List ℕ → Token → Bool
-is_word keyword w = not w.quoted && bytes_eq w.bytes keyword
-
-abbrev pub is_one_of : List (List ℕ) → Token → Bool
-is_one_of keywords w = list_any (λ keyword. is_word keyword w) keywords
-
 abbrev pub word : List ℕ → List ℕ → Parser Token
 word inside keyword = next inside (is_word keyword)
 
--- a byte that a name may have
-abbrev pub is_name_byte : ℕ → Bool
-is_name_byte b = nat_le 33 b && nat_le b 126
-
--- one of the five words that stand for themselves: ; ( ) + -
-abbrev pub is_mark : List ℕ → Bool
-is_mark [] = false
-is_mark (b ∷ []) = b == byte ";" || b == byte "(" || b == byte ")" || b == byte "+" || b == byte "-"
-is_mark (b ∷ c ∷ bs) = false
-
-abbrev pub is_name : Token → Bool
-is_name w = not w.quoted && not (is_mark w.bytes) && nat_le (length w.bytes) 1024 && list_all is_name_byte w.bytes
-
 abbrev pub name : List ℕ → Parser Token
 name inside = next inside is_name
-
--- The bytes are one of these names.
-abbrev pub is_among : List (List ℕ) → List ℕ → Bool
-is_among names bytes = list_any (λ n. bytes_eq n bytes) names
 
 -- the bytes of the next word, and none where there is none
 abbrev pub bytes_ahead : Walk → List ℕ
@@ -140,9 +117,3 @@ many_for (suc n) inside item xs u = then_read (item xs u) (then_more (many_for n
 -- statements up to the end. Each takes a word at least, so there are no more than words.
 abbrev pub many : {A : Type 0} → List ℕ → (List A → Parser (Option A)) → Parser (List A)
 many inside item u = many_for (suc (word_count u)) inside item [] u
-
--- the first value there is
-abbrev pub first_some : {A : Type 0} → List (Option A) → Option A
-first_some [] = None
-first_some (None ∷ os) = first_some os
-first_some (Some x ∷ os) = Some x

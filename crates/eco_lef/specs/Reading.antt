@@ -1,5 +1,6 @@
 -- What a reader has left, and what its calls do.
 use Rattle.std.specs.Prelude.{◌≡◌, ℕ, ◌+◌, ◌<◌, ◌≤◌, List, length, Option, Result, Ok, Err, OnOk, IfOk, IfSome}
+use Rattle.eco_common.specs.declared.limits.TheConstants.{MAX_DEF_BYTES}
 use Rattle.eco_text.specs.Words.{Walk}
 use Rattle.eco_text.specs.Cursor.{Cursor, from, after}
 use Rattle.eco_text.specs.declared.word.Word.{Word}
@@ -8,7 +9,7 @@ use Rattle.eco_lef.specs.Parsing.{Parser, word_count}
 use Rattle.eco_lef.specs.declared.fault.LefFault.{LefFault}
 use Rattle.eco_lef.specs.declared.fault.LefFault.TheVariants.{Text, Unended, TwiceNamed, TooManyMasters, ArrayBlock, BadStatement, Memory}
 
--- a text, the word ahead, and the place behind it
+-- a text, the word ahead, and the place after it
 pub record Reading : Type 0 where
   pub text : List ℕ
   pub ahead : Result (Option Word) TextFault
@@ -24,7 +25,7 @@ LiesIn text w = (w.start < w.end) × (w.end ≤ length text)
 
 pub record IsReading (text : List ℕ) (ahead : Result (Option Word) TextFault) (cursor : Cursor) : Type 0 where
   pub same : cursor.text ≡ text
-  pub short : length text ≤ 134217728
+  pub short : length text ≤ MAX_DEF_BYTES
   pub within : IfOk ahead (λ o. IfSome o (LiesIn text))
 
 -- The fault is this one, unless memory ran out.

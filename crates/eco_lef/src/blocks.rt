@@ -2,7 +2,8 @@
 
 ghost use Rattle.std.specs.Prelude.{◌≡◌};
 ghost use Rattle.eco_text.specs.Cursor.{token};
-ghost use Rattle.eco_lef.specs.Parsing.{is_word, pass_to, unused_name};
+ghost use Rattle.eco_text.specs.Tokens.{is_word};
+ghost use Rattle.eco_lef.specs.Parsing.{pass_to, unused_name};
 ghost use Rattle.eco_lef.specs.Grammar.{block_ends, pass_block};
 ghost use Rattle.eco_lef.specs.Reading.{Reads, as_is};
 
@@ -32,7 +33,7 @@ impl<'a> Reader<'a> {
         self.take(block)
     }
 
-    /// Whether an `END` ends the block: its name follows. The word behind another `END` is passed over.
+    /// Whether an `END` ends the block: its name follows. The word after another `END` is passed over.
     #[tactic(auto, unfolding(crate::specs::Grammar::block_ends))]
     pub fn block_ends(&mut self, inside: &[u8], block: &[u8]) -> Result<bool, LefFault>
         ensures { Reads 1 as_is (block_ends inside.now block.now) self.old self.new result }

@@ -3,13 +3,13 @@
 ghost use Rattle.std.specs.Prelude.{◌≡◌};
 ghost use Rattle.eco_lef.specs.declared.fault.LefFault.TheVariants.{Memory as OutOfMemory};
 
-use eco_func::{Memory, Name};
+use eco_common::{Memory, Name};
 use eco_text::TextFault;
 use std::alloc::{AllocError, AllocFailed};
 use std::fmt;
 use thiserror::Error;
 
-/// The first fault of a text, with its place in bytes, or want of memory.
+/// The first fault of a text, with its place in bytes, or out of memory.
 #[derive(Drop, Error)]
 pub enum LefFault {
     /// A quoted word doesn't end.

@@ -28,7 +28,7 @@ impl Model for Library {
 
 impl Library {
     ghost use Rattle.std.specs.Prelude.{◌≡◌, [], ◌∷◌, ◌++◌, length, option_copied, IfOk};
-    ghost use Rattle.eco_lef.specs.Parsing.{is_among};
+    ghost use Rattle.eco_common.specs.NameBytes.{is_among};
     ghost use Rattle.eco_lef.specs.Known.{names_of, first_place};
     ghost use Rattle.eco_lef.specs.Collected.{find_master};
 

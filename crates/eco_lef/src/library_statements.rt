@@ -2,7 +2,8 @@
 
 ghost use Rattle.std.specs.Prelude.{◌+◌, ◌≤◌, nat_le, length, IsSome, IfOk};
 ghost use Rattle.eco_text.specs.Cursor.{token};
-ghost use Rattle.eco_lef.specs.Parsing.{is_among, new_name, word_count};
+ghost use Rattle.eco_common.specs.NameBytes.{is_among};
+ghost use Rattle.eco_lef.specs.Parsing.{new_name, word_count};
 ghost use Rattle.eco_lef.specs.Known.{names_of};
 ghost use Rattle.eco_lef.specs.Grammar.{defined as defined_at, named_block, plain_block, passed_in_library, library_end, statement_under, library_statement_new, masters};
 ghost use Rattle.eco_lef.specs.Reading.{Reads, left, as_is};
@@ -12,19 +13,16 @@ use crate::library::Library;
 use crate::master::Master;
 use crate::reader::Reader;
 use crate::statement::{LibraryStatement, Size};
-use eco_func::Name;
+use eco_common::{MAX_MASTERS, Name};
 use eco_text::Word;
-
-/// A library has no more masters.
-const MOST_MASTERS: usize = 16_384;
 
 impl<'a> Reader<'a> {
     /// A macro's name, which isn't among those of the library, where there is room for one more.
     fn master_name(&mut self, heading: &[u8], library: &Library) -> Result<Word, LefFault>
-        ensures { Reads 1 token (new_name heading.now (is_among (names_of library.now)) (nat_le 16384 (length library.now))) self.old self.new result }
+        ensures { Reads 1 token (new_name heading.now (is_among (names_of library.now)) (nat_le MAX_MASTERS (length library.now))) self.old self.new result }
     {
         let known = library.has(self.bytes_ahead());
-        self.unused_name(heading, known, MOST_MASTERS <= library.len())
+        self.unused_name(heading, known, MAX_MASTERS <= library.len())
     }
 
     /// A macro, whose name isn't among those of the library, where there is room for one more.
@@ -34,7 +32,7 @@ impl<'a> Reader<'a> {
         heading: &[u8],
         library: &Library,
     ) -> Result<Option<LibraryStatement>, LefFault>
-        ensures { Reads 1 as_is (defined_at heading.now (is_among (names_of library.now)) (nat_le 16384 (length library.now))) self.old self.new result }
+        ensures { Reads 1 as_is (defined_at heading.now (is_among (names_of library.now)) (nat_le MAX_MASTERS (length library.now))) self.old self.new result }
     {
         self.take(heading)?;
         let word = self.master_name(heading, library)?;
@@ -100,7 +98,7 @@ impl<'a> Reader<'a> {
         heading: &[u8],
         library: &Library,
     ) -> Result<Option<LibraryStatement>, LefFault>
-        ensures { Reads 1 as_is (statement_under heading.now (is_among (names_of library.now)) (nat_le 16384 (length library.now))) self.old self.new result }
+        ensures { Reads 1 as_is (statement_under heading.now (is_among (names_of library.now)) (nat_le MAX_MASTERS (length library.now))) self.old self.new result }
     {
         if self.next_is(b"END") {
             return self.library_end(heading);
@@ -125,7 +123,7 @@ impl<'a> Reader<'a> {
 
     /// One statement, and none at the end of the library or the text.
     fn library_statement(&mut self, library: &Library) -> Result<Option<LibraryStatement>, LefFault>
-        ensures reads { Reads 0 as_is (library_statement_new (is_among (names_of library.now)) (nat_le 16384 (length library.now))) self.old self.new result }
+        ensures reads { Reads 0 as_is (library_statement_new (is_among (names_of library.now)) (nat_le MAX_MASTERS (length library.now))) self.old self.new result }
         ensures goes_on { IfOk result (λ o. IsSome o → word_count (left self.new) + 1 ≤ word_count (left self.old)) }
     {
         match self.ahead {
@@ -137,7 +135,7 @@ impl<'a> Reader<'a> {
 
     /// The masters of all statements.
     pub fn library(&mut self) -> Result<Library, LefFault>
-        ensures { Reads 0 as_is (masters (nat_le 16384)) self.old self.new result }
+        ensures { Reads 0 as_is (masters (nat_le MAX_MASTERS)) self.old self.new result }
     {
         let mut library = Library::new(self.alloc);
         'statements: while let Some(statement) = self.library_statement(&library)? {

@@ -2,7 +2,8 @@
 
 ghost use Rattle.std.specs.Prelude.{◌≡◌, false, IfOk};
 ghost use Rattle.eco_text.specs.Cursor.{token};
-ghost use Rattle.eco_lef.specs.Parsing.{is_among, new_name};
+ghost use Rattle.eco_common.specs.NameBytes.{is_among};
+ghost use Rattle.eco_lef.specs.Parsing.{new_name};
 ghost use Rattle.eco_lef.specs.Grammar.{size, pin, passed_in_macro, macro_end, macro_statement_new, macro_body};
 ghost use Rattle.eco_lef.specs.Known.{pin_names};
 ghost use Rattle.eco_lef.specs.Collected.{also_in_macro};
@@ -13,8 +14,8 @@ use crate::master::MasterPin;
 use crate::pin_list::PinList;
 use crate::reader::Reader;
 use crate::statement::{MacroStatement, Size};
-use eco_func::Name;
-use eco_text::{Dir, Word};
+use eco_common::{Dir, Name};
+use eco_text::Word;
 use std::alloc::{AllocError, Global};
 
 /// What the statements of a macro have said so far.

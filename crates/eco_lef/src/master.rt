@@ -1,7 +1,6 @@
 //! Masters of a library.
 
-use eco_func::Name;
-use eco_text::Dir;
+use eco_common::{Dir, Name};
 use sqlite_items::Items;
 
 /// A pin of a master. `supply` says that its `USE` is POWER or GROUND.

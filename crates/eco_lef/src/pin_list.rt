@@ -28,7 +28,7 @@ impl Model for PinList {
 
 impl PinList {
     ghost use Rattle.std.specs.Prelude.{◌≡◌, [], ◌∷◌, ◌++◌, IfOk};
-    ghost use Rattle.eco_lef.specs.Parsing.{is_among};
+    ghost use Rattle.eco_common.specs.NameBytes.{is_among};
     ghost use Rattle.eco_lef.specs.Known.{pin_names};
 
     pub fn new(alloc: Global) -> PinList

@@ -8,7 +8,7 @@ ghost use Rattle.eco_lef.specs.Reading.{Reads, as_is};
 use crate::fault::LefFault;
 use crate::reader::Reader;
 use crate::statement::PinStatement;
-use eco_text::Dir;
+use eco_common::Dir;
 
 /// What the statements of a pin have said so far.
 #[derive(Clone, Copy, Drop)]
@@ -46,7 +46,7 @@ impl<'a> Reader<'a> {
         Ok(dir)
     }
 
-    /// `OUTPUT`, with `TRISTATE` behind it or not.
+    /// `OUTPUT`, with or without `TRISTATE` after it.
     #[tactic(auto, unfolding(crate::specs::Grammar::output))]
     fn output(&mut self, inside: &[u8]) -> Result<Dir, LefFault>
         ensures { Reads 1 as_is (output inside.now) self.old self.new result }

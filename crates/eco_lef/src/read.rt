@@ -9,6 +9,7 @@ ghost use Rattle.eco_lef.specs.Reading.{Refuses};
 use crate::fault::LefFault;
 use crate::library::Library;
 use crate::reader::Reader;
+use eco_common::{MAX_LEF_BYTES, MAX_MASTERS};
 use std::alloc::Global;
 
 /// Reads a LEF text of at most 67,108,864 bytes.
@@ -16,11 +17,11 @@ use std::alloc::Global;
 /// The masters are those of the text by the rules of docs/FORMATS.md, at most 16,384. A text that gives none has a first
 /// fault, from the front of the text, and that is the answer.
 pub fn read_lef(alloc: Global, text: &[u8]) -> Result<Library, LefFault>
-    requires { length text.now ≤ 67108864 }
-    ensures library { IfOk result (IsLibraryOf 16384 text.now) }
+    requires { length text.now ≤ MAX_LEF_BYTES }
+    ensures library { IfOk result (IsLibraryOf MAX_MASTERS text.now) }
     ensures names { IfOk result HaveOwnNames }
-    ensures masters { IfOk result (λ masters. library_within 16384 text.now ≡ Ok masters) }
-    ensures fault { IfErr result (λ e. Refuses (library_within 16384 text.now) e) }
+    ensures masters { IfOk result (λ masters. library_within MAX_MASTERS text.now ≡ Ok masters) }
+    ensures fault { IfErr result (λ e. Refuses (library_within MAX_MASTERS text.now) e) }
 {
     let mut reader = Reader::new(alloc, text);
     reader.library()

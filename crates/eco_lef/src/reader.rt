@@ -7,11 +7,12 @@ ghost use Rattle.eco_text.specs.Words.{walk_of};
 ghost use Rattle.eco_text.specs.Cursor.{token};
 ghost use Rattle.eco_text.specs.Numbers.{microns_of};
 ghost use Rattle.eco_lef.specs.declared.fault.LefFault.TheVariants.{Unended, BadStatement, TwiceNamed, TooManyMasters, ArrayBlock};
-ghost use Rattle.eco_lef.specs.Parsing.{begins, any, pass_one as one_passed, fault_at, is_word, is_one_of as is_among_words, word as word_at, name as name_at, is_name, is_mark as mark, is_name_byte, bytes_ahead, valued};
+ghost use Rattle.eco_lef.specs.Parsing.{begins, any, pass_one as one_passed, fault_at, word as word_at, name as name_at, bytes_ahead, valued};
+ghost use Rattle.eco_text.specs.Tokens.{is_word, is_one_of as is_among_words, is_name as is_name_word};
 ghost use Rattle.eco_lef.specs.Reading.{Reads, Tells, left, LiesIn, as_is};
 
 use crate::fault::LefFault;
-use eco_func::Name;
+use eco_common::{MAX_DEF_BYTES, Name, is_mark, is_name};
 use eco_text::{TextFault, Word, Words, between, read_microns};
 use std::alloc::Global;
 use std::marker::Model;
@@ -50,32 +51,17 @@ fn is_one_of(text: &[u8], word: Word, keywords: &[&[u8]]) -> bool
         .any(|keyword| is_keyword(text, word, keyword))
 }
 
-fn is_mark(bytes: &[u8]) -> bool
-    ensures { result ≡ mark bytes.now }
-{
-    match bytes {
-        [byte] => matches!(byte, b';' | b'(' | b')' | b'+' | b'-'),
-        _ => false,
-    }
-}
-
-fn has_name_bytes(bytes: &[u8]) -> bool
-    ensures { result ≡ list_all is_name_byte bytes.now }
-{
-    bytes.iter().all(|byte| 33 <= *byte && *byte <= 126)
-}
-
 fn can_name(text: &[u8], word: Word) -> bool
     requires { LiesIn text.now word }
-    ensures { result ≡ is_name (token text.now word) }
+    ensures { result ≡ is_name_word (token text.now word) }
 {
     let bytes = &text[word.start as usize..word.end as usize];
-    !word.quoted && !is_mark(bytes) && bytes.len() <= 1024 && has_name_bytes(bytes)
+    !word.quoted && !is_mark(bytes) && is_name(bytes)
 }
 
 impl<'a> Reader<'a> {
     pub fn new(alloc: Global, text: &'a [u8]) -> Reader<'a>
-        requires { length text.now ≤ 134217728 }
+        requires { length text.now ≤ MAX_DEF_BYTES }
         ensures text { result.text ≡ text.now }
         ensures left { left result ≡ walk_of text.now }
     {
@@ -138,7 +124,7 @@ impl<'a> Reader<'a> {
     }
 
     pub fn next_is_name(&self) -> bool
-        ensures { result ≡ begins is_name (left self.now) }
+        ensures { result ≡ begins is_name_word (left self.now) }
     {
         match self.ahead {
             Ok(Some(word)) => can_name(self.text, word),

@@ -1,7 +1,7 @@
 //! What the statements of a library say.
 
 use crate::master::{Master, MasterPin};
-use eco_text::Dir;
+use eco_common::Dir;
 
 /// A statement in a pin. `Used` says whether the use is POWER or GROUND.
 #[derive(Drop)]

@@ -1,14 +1,15 @@
 use Rattle.std.proofs.Common.{ℕ, ◌+◌, ◌-◌, ◌*◌, ◌^◌, ◌≤◌, ◌<◌, ◌≡◌, inl, inr, List, length, drop, slice_index, None, sym, ap, ◌∙◌, arith, subst, length-drop}
 use Rattle.std.proofs.lemmas.List.{length-take-le, get_or-take, get_or-drop, get_or_past}
-use Rattle.eco_bench.specs.Region.{Area, with_part, with_words, Stands, ChangesOnly}
-use Rattle.eco_bench.proofs.Writing.{length-with_part, words_of-written, written-only}
+use Rattle.eco_bench.specs.Region.{Area, IsCarved, IsStanding, IsWithin, overwritten, with_words, ChangesOnly}
+use Rattle.eco_bench.proofs.Apart.{carved-written}
+use Rattle.eco_bench.proofs.Writing.{length-overwritten, words_of-written, written-only}
 use Rattle.eco_match.specs.declared.pairs.Rows.{Rows}
 use Rattle.eco_match.specs.Rows.{AreRows, AreParts, rows_words, work_len, head_of, columns_of, starts_of, ends_of, spares_of, costs_of, rows_cost, parts_cost}
 use Rattle.eco_match.specs.Table.{find_cost}
 use Rattle.eco_match.proofs.Order.{split}
 
 pub record Over (area : Area) (r : Rows) (part : List ℕ) : Type 0 where
-  pub stands : Stands area r.span
+  pub stands : IsWithin area r.span
   pub fits : area.used ≤ length area.words
   pub size : length part ≡ r.span.len
 
@@ -16,8 +17,8 @@ pub record Over (area : Area) (r : Rows) (part : List ℕ) : Type 0 where
 pub rows-written : (area : Area) (r : Rows) (part : List ℕ) → Over area r part → rows_words (with_words area r.span.start part) r ≡ part
 rows-written area r part w = words_of-written area r.span part w.stands w.fits w.size
 
-pub length-written : (area : Area) (r : Rows) (part : List ℕ) → Over area r part → length (with_part area.words r.span.start part) ≡ length area.words
-length-written area r part w = length-with_part area.words part r.span.start (omega (arith, w.stands, w.fits, w.size))
+pub length-written : (area : Area) (r : Rows) (part : List ℕ) → Over area r part → length (overwritten area.words r.span.start part) ≡ length area.words
+length-written area r part w = length-overwritten area.words part r.span.start (omega (arith, w.stands, w.fits, w.size))
 
 pub only-written : (area : Area) (r : Rows) (part : List ℕ) → Over area r part → ChangesOnly area (with_words area r.span.start part) r.span
 only-written area r part w = written-only area r.span part w.stands w.fits w.size
@@ -78,12 +79,12 @@ cost-none r words w g s =
     let n : slice_index (ends_of r head) (g + 1) - slice_index (starts_of r head) (g + 1) ≡ 0 = omega (arith, z) in
     ap (λ (k : ℕ). find_cost (spares_of r columns) (costs_of r columns) s (slice_index (starts_of r head) (g + 1)) k) n
 
-pub rows-begun : (area : Area) (r : Rows) (part : List ℕ) → r.spares < 2 ^ 32 → Over area r part → Empty r part → AreRows (with_words area r.span.start part) r
-rows-begun area r part few over empty =
+pub rows-begun : (area : Area) (r : Rows) (part : List ℕ) → r.spares < 2 ^ 32 → Over area r part → Empty r part → IsStanding area r.span → IsCarved area → AreRows (with_words area r.span.start part) r
+rows-begun area r part few over empty stands carved =
     let e = rows-written area r part over in
     record {
-      stands = over.stands;
-      fits = (let l = length-written area r part over in omega (arith, l, over.fits));
+      stands = stands;
+      carved = carved-written area r.span.start part (length-written area r part over) carved;
       few = few;
       size = omega (arith, empty.size, over.size);
       parts = subst (λ (words : List ℕ). AreParts r (head_of r words) (columns_of r words)) (sym e) (parts-empty r part empty);

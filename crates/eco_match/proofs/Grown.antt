@@ -5,6 +5,7 @@ use Rattle.eco_bench.specs.Region.{Area, with_words, ChangesOnly}
 use Rattle.eco_match.specs.declared.pairs.Rows.{Rows}
 use Rattle.eco_match.specs.Rows.{AreRows, AreParts, rows_words, work_len, head_of, columns_of, starts_of, ends_of, spares_of, costs_of, rows_cost, parts_cost, PairWritten, ComesNext, wider, with_pair}
 use Rattle.eco_match.proofs.Find.{row-pair}
+use Rattle.eco_bench.proofs.Apart.{within-of, carved-written}
 use Rattle.eco_bench.proofs.Writing.{take-front, drop-front}
 use Rattle.eco_match.proofs.Kept.{part-len, Written}
 use Rattle.eco_match.proofs.Begun.{Over, rows-written, length-written, only-written}
@@ -136,7 +137,7 @@ pub record Wrote (area : Area) (r : Rows) (gate spare cost : ℕ) (work head' co
   pub size : length (head' ++ (work ++ columns')) ≡ r.span.len
 
 over-of : (area : Area) (r : Rows) (gate spare cost : ℕ) (work head' columns' : List ℕ) → Wrote area r gate spare cost work head' columns' → Over area r (head' ++ (work ++ columns'))
-over-of area r gate spare cost work head' columns' w = record { stands = w.rows.stands; fits = w.rows.fits; size = w.size }
+over-of area r gate spare cost work head' columns' w = record { stands = within-of area r.span w.rows.carved w.rows.stands; fits = w.rows.carved.fits; size = w.size }
 
 head-read : (area : Area) (r : Rows) (gate spare cost : ℕ) (work head' columns' : List ℕ) → Wrote area r gate spare cost work head' columns' → head_of r (rows_words (with_words area r.span.start (head' ++ (work ++ columns'))) r) ≡ head'
 head-read area r gate spare cost work head' columns' w =
@@ -153,7 +154,7 @@ pub rows-added : (area : Area) (r : Rows) (gate spare cost : ℕ) (work head' co
 rows-added area r gate spare cost work head' columns' w =
     record {
       stands = w.rows.stands;
-      fits = (let l = length-written area r (head' ++ (work ++ columns')) (over-of area r gate spare cost work head' columns' w) in omega (arith, l, w.rows.fits));
+      carved = carved-written area r.span.start (head' ++ (work ++ columns')) (length-written area r (head' ++ (work ++ columns')) (over-of area r gate spare cost work head' columns' w)) w.rows.carved;
       few = w.rows.few;
       size = w.rows.size;
       parts = rw (head-read area r gate spare cost work head' columns' w, columns-read area r gate spare cost work head' columns' w)
@@ -183,7 +184,7 @@ pub record Code (area : Area) (r : Rows) (gate spare cost : ℕ) (head columns w
 
 pub wrote : (area : Area) (r : Rows) (gate spare cost : ℕ) (head columns work head' columns' : List ℕ) → Code area r gate spare cost head columns work head' columns' → Wrote area r gate spare cost work head' columns'
 wrote area r gate spare cost head columns work head' columns' w =
-    let old : Written area r head work columns = record { stands = w.rows.stands; fits = w.rows.fits; size = omega (arith, w.rows.size); head_is = w.head_is; columns_is = w.columns_is; work_is = w.work_is } in
+    let old : Written area r head work columns = record { stands = within-of area r.span w.rows.carved w.rows.stands; fits = w.rows.carved.fits; size = omega (arith, w.rows.size); head_is = w.head_is; columns_is = w.columns_is; work_is = w.work_is } in
     let len = part-len area r head work columns old in
     let a = length-append head (work ++ columns) in
     let b = length-append work columns in

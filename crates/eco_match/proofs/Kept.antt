@@ -1,20 +1,21 @@
 use Rattle.std.proofs.Common.{ℕ, ◌+◌, ◌-◌, ◌*◌, ◌≤◌, ◌≡◌, List, ◌++◌, length, drop, sym, ap, ◌∙◌, arith, length-append, length-drop}
 use Rattle.std.proofs.lemmas.List.{length-take-le}
-use Rattle.eco_bench.specs.Region.{Area, with_words, Stands, ChangesOnly, words_of}
-use Rattle.eco_bench.proofs.Writing.{take-front, drop-front, length-with_part, words_of-written, written-only}
+use Rattle.eco_bench.specs.Region.{Area, IsCarved, IsStanding, IsWithin, with_words, ChangesOnly, words_of}
+use Rattle.eco_bench.proofs.Apart.{carved-written}
+use Rattle.eco_bench.proofs.Writing.{take-front, drop-front, length-overwritten, words_of-written, written-only}
 use Rattle.eco_match.specs.declared.pairs.Rows.{Rows}
 use Rattle.eco_match.specs.Rows.{AreRows, rows_words, head_of, columns_of, work_len, rows_cost, parts_cost}
 
 -- the words of the rows, with others in the place of the work
 pub record Written (area : Area) (r : Rows) (head work columns : List ℕ) : Type 0 where
-  pub stands : Stands area r.span
+  pub stands : IsWithin area r.span
   pub fits : area.used ≤ length area.words
   pub size : 2 * (r.gates + 1) + work_len r ≤ r.span.len
   pub head_is : head ≡ head_of r (rows_words area r)
   pub columns_is : columns ≡ columns_of r (rows_words area r)
   pub work_is : length work ≡ work_len r
 
-pub words-len : (area : Area) (r : Rows) → Stands area r.span → area.used ≤ length area.words → length (rows_words area r) ≡ r.span.len
+pub words-len : (area : Area) (r : Rows) → IsWithin area r.span → area.used ≤ length area.words → length (rows_words area r) ≡ r.span.len
 words-len area r stands fits =
     let a = length-drop r.span.start area.words in
     let b = length-take-le (r.span.start + r.span.len - r.span.start) (drop r.span.start area.words) (omega (arith, a, stands, fits)) in
@@ -58,11 +59,11 @@ columns-kept area r head work columns w =
     ∙ drop-front (work_len r) work columns (sym w.work_is) ∙ w.columns_is
 
 -- rows stand as before where their parts do
-pub rows-stay : (old new : Area) (r : Rows) → AreRows old r → Stands new r.span → new.used ≤ length new.words →
+pub rows-stay : (old new : Area) (r : Rows) → AreRows old r → IsStanding new r.span → IsCarved new →
     head_of r (rows_words new r) ≡ head_of r (rows_words old r) → columns_of r (rows_words new r) ≡ columns_of r (rows_words old r) → AreRows new r
-rows-stay old new r rows stands fits head columns = record {
+rows-stay old new r rows stands carved head columns = record {
   stands = stands;
-  fits = fits;
+  carved = carved;
   few = rows.few;
   size = rows.size;
   parts = rw (head, columns) rows.parts;
@@ -79,16 +80,16 @@ only-work area r head work columns w = written-only area r.span (head ++ (work +
 
 pub rows-kept : (area : Area) (r : Rows) (head work columns : List ℕ) → Written area r head work columns → AreRows area r → AreRows (written area r head work columns) r
 rows-kept area r head work columns w rows =
-    let size = length-with_part area.words (head ++ (work ++ columns)) r.span.start (let p = part-len area r head work columns w in omega (arith, p, w.stands, w.fits)) in
-    rows-stay area (written area r head work columns) r rows w.stands (omega (arith, size, w.fits)) (head-kept area r head work columns w) (columns-kept area r head work columns w)
+    let size = length-overwritten area.words (head ++ (work ++ columns)) r.span.start (let p = part-len area r head work columns w in omega (arith, p, w.stands, w.fits)) in
+    rows-stay area (written area r head work columns) r rows rows.stands (carved-written area r.span.start (head ++ (work ++ columns)) size rows.carved) (head-kept area r head work columns w) (columns-kept area r head work columns w)
 
 pub costs-kept : (area : Area) (r : Rows) (head work columns : List ℕ) → Written area r head work columns → rows_cost (written area r head work columns) r ≡ rows_cost area r
 costs-kept area r head work columns w = costs-stay area (written area r head work columns) r (head-kept area r head work columns w) (columns-kept area r head work columns w)
 
 -- rows stand, with their costs, where their span holds the same words
-pub rows-hold : (old new : Area) (r : Rows) → AreRows old r → Stands new r.span → new.used ≤ length new.words → words_of new r.span ≡ words_of old r.span → AreRows new r
-rows-hold old new r rows stands fits words =
-    rows-stay old new r rows stands fits (ap (λ (xs : List ℕ). head_of r xs) words) (ap (λ (xs : List ℕ). columns_of r xs) words)
+pub rows-hold : (old new : Area) (r : Rows) → AreRows old r → IsStanding new r.span → IsCarved new → words_of new r.span ≡ words_of old r.span → AreRows new r
+rows-hold old new r rows stands carved words =
+    rows-stay old new r rows stands carved (ap (λ (xs : List ℕ). head_of r xs) words) (ap (λ (xs : List ℕ). columns_of r xs) words)
 
 pub costs-hold : (old new : Area) (r : Rows) → words_of new r.span ≡ words_of old r.span → rows_cost new r ≡ rows_cost old r
 costs-hold old new r words = costs-stay old new r (ap (λ (xs : List ℕ). head_of r xs) words) (ap (λ (xs : List ℕ). columns_of r xs) words)

@@ -5,7 +5,7 @@ use Rattle.eco_match.specs.declared.pairs.Rows.{Rows}
 use Rattle.eco_match.specs.declared.answer.MatchOut.{MatchOut}
 use Rattle.eco_match.specs.Least.{Certifies, IsShort, one_if, is_wanted, IsLeast, HasNone}
 use Rattle.eco_match.specs.MatchOut.{out_spare, out_worth, out_price, out_short}
-use Rattle.eco_match.specs.Phase.{Matched, AreBounded}
+use Rattle.eco_match.specs.Phase.{AreMatched, AreBounded}
 use Rattle.eco_match.specs.Rows.{AreParts, IsTableOf, starts_of, ends_of, spares_of, costs_of, parts_cost}
 use Rattle.eco_match.specs.Solve.{IsStuck, short_gate}
 use Rattle.eco_match.specs.Table.{IsTable, AreRising, RowsRise, row_cost, table_cost}
@@ -52,7 +52,7 @@ table-costs r head columns t f =
 pub is-table : (r : Rows) (head columns : List ℕ) (t : Table) → FromParts r head columns t → IsTableOf r t
 is-table r head columns t f = record { few = f.parts.gates; inside = table-inside r head columns t f; good = table-good r head columns t f; rising = table-rising r head columns t f }
 
-ended : (r : Rows) (t : Table) (owner : List ℕ) (out : MatchOut) → IsTableOf r t → length owner ≡ r.spares → Matched r.gates r.gates t owner out → Ended r.gates t owner out
+ended : (r : Rows) (t : Table) (owner : List ℕ) (out : MatchOut) → IsTableOf r t → length owner ≡ r.spares → AreMatched r.gates r.gates t owner out → Ended r.gates t owner out
 ended r t owner out f size matched = record { table = rw size f.good; inside = f.inside; rising = f.rising; matched = matched }
 
 -- the numbers of the search are those of the answer
@@ -77,7 +77,7 @@ price-told count out few bounded k less =
     let b = bounded.price (k + 1) (omega (arith, few, less)) in
     natural-pos (out_price out k) (omega (arith, is, b, few)) ∙ ap pos (sym is)
 
-pub answer-all : (r : Rows) (t : Table) (owner : List ℕ) (out : MatchOut) → IsTableOf r t → length owner ≡ r.spares → Matched r.gates r.gates t owner out → AreBounded r.gates out →
+pub answer-all : (r : Rows) (t : Table) (owner : List ℕ) (out : MatchOut) → IsTableOf r t → length owner ≡ r.spares → AreMatched r.gates r.gates t owner out → AreBounded r.gates out →
     Certifies r.gates (table_cost t) (out_spare out) (out_worth out) (out_price out)
 answer-all r t owner out f size matched bounded =
     let w = ended r t owner out f size matched in

@@ -2,7 +2,8 @@ use Rattle.std.specs.Prelude.{ℕ, ◌+◌, ◌*◌, ◌^◌, ◌≤◌, ◌<◌
 use Rattle.eco_match.specs.Table.{AreColumns, row_cost, RowsRise, AreRising}
 use Rattle.eco_match.specs.declared.table.Table.{Table}
 use Rattle.eco_match.specs.declared.pairs.Rows.{Rows}
-use Rattle.eco_bench.specs.Region.{Area, Stands, words_of}
+use Rattle.eco_bench.specs.Region.{Area, IsCarved, IsStanding, words_of}
+use Rattle.eco_match.specs.declared.work.TheConstants.{PLACES}
 
 -- the words of the rows, and the parts that they are cut into: the head, the work and the columns
 abbrev pub rows_words : Area → Rows → List ℕ
@@ -43,7 +44,7 @@ rows_cost area r = parts_cost r (head_of r (rows_words area r)) (columns_of r (r
 -- head and columns of rows: the pairs stand in order, gate by gate, and the row of a gate with no pair
 -- ends at 0
 pub record AreParts (r : Rows) (head columns : List ℕ) : Type 0 where
-  pub gates : r.gates < 129
+  pub gates : r.gates < PLACES
   pub filled : r.filled ≤ r.pairs
   pub head_len : length head ≡ 2 * (r.gates + 1)
   pub columns_len : 2 * r.pairs ≤ length columns
@@ -54,15 +55,15 @@ pub record AreParts (r : Rows) (head columns : List ℕ) : Type 0 where
 
 -- the rows were begun on this region, and stand
 pub record AreRows (area : Area) (r : Rows) : Type 0 where
-  pub stands : Stands area r.span
-  pub fits : area.used ≤ length area.words
+  pub stands : IsStanding area r.span
+  pub carved : IsCarved area
   pub few : r.spares < 2 ^ 32
   pub size : 2 * (r.gates + 1) + work_len r + 2 * r.pairs ≤ r.span.len
   pub parts : AreParts r (head_of r (rows_words area r)) (columns_of r (rows_words area r))
 
 -- the table of the rows
 pub record IsTableOf (r : Rows) (t : Table) : Type 0 where
-  pub few : r.gates < 129
+  pub few : r.gates < PLACES
   pub inside : r.gates < length t.ends.now
   pub good : AreColumns r.spares t.starts.now t.ends.now t.spares.now t.costs.now
   pub rising : AreRising t
@@ -79,7 +80,7 @@ wider r = record { span = r.span; gates = r.gates; spares = r.spares; pairs = r.
 abbrev pub start_with : Rows → List ℕ → ℕ → List ℕ
 start_with r head place = if slice_index (ends_of r head) place == 0 then slice_set (starts_of r head) place r.filled else starts_of r head
 
--- a pair is written behind the others
+-- a pair is written after the others
 pub record PairWritten (r : Rows) (place spare cost : ℕ) (head columns head' columns' : List ℕ) : Type 0 where
   pub starts : starts_of r head' ≡ start_with r head place
   pub ends : ends_of r head' ≡ slice_set (ends_of r head) place (r.filled + 1)

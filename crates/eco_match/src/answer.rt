@@ -1,16 +1,19 @@
-// What a matching answers.
+//! What a matching answers.
+/// At most this many gates are matched.
+pub const MAX_GATES: usize = 128;
+
 /// A mapping with worths and prices, or a short set. An entry for each gate, of which those of the
-/// rows' gates tell something: after `Matched` the first three fields, after `Short` the last.
+/// rows' gates are set: after `Matched` in the first three fields, after `Short` in the last.
 #[derive(Drop)]
 pub struct MatchOut {
     /// The spare that the gate gets.
-    pub spare: [u32; 128],
+    pub spare: [u32; MAX_GATES],
     /// What the gate is worth: the cost of its spare and that spare's price.
-    pub worth: [i128; 128],
+    pub worth: [i128; MAX_GATES],
     /// The price of the gate's spare. Every spare that no gate gets has price 0.
-    pub price: [i128; 128],
+    pub price: [i128; MAX_GATES],
     /// Whether the gate is in the short set.
-    pub short: [bool; 128],
+    pub short: [bool; MAX_GATES],
 }
 
 /// Which of the two a matching found.
@@ -30,10 +33,10 @@ impl MatchOut {
         ensures { IsBlank result }
     {
         MatchOut {
-            spare: [0; 128],
-            worth: [0; 128],
-            price: [0; 128],
-            short: [false; 128],
+            spare: [0; MAX_GATES],
+            worth: [0; MAX_GATES],
+            price: [0; MAX_GATES],
+            short: [false; MAX_GATES],
         }
     }
 }

@@ -1,10 +1,12 @@
-// Tests of an answer against the rows.
+//! Tests of an answer against the rows.
 ghost use Rattle.std.specs.Prelude.{◌≡◌, ℕ, ◌+◌, ◌*◌, ◌≤◌, ◌<◌, ◌^◌, ◌-◌, ◌↔◌, IsTrue, ◌&&◌, is_some, pos, ◌≤ℤ◌, length, slice_index, take, drop};
 ghost use Rattle.eco_match.specs.Checks.{chosen_at, KeepsRule, NoneNegative, AreChosen, DiffersFromEarlier, AllDiffer, AllKeep};
 ghost use Rattle.eco_match.specs.Least.{sum_below, one_if, is_wanted, IsShort, signed_price_of, Certifies};
 ghost use Rattle.eco_match.specs.MatchOut.{out_short, out_spare, out_price, out_worth};
 ghost use Rattle.eco_match.specs.Rows.{AreRows, IsTableOf, rows_cost};
 ghost use Rattle.eco_match.specs.Table.{table_cost, InRow};
+ghost use Rattle.eco_match.specs.declared.work.TheConstants.{PLACES};
+ghost use Rattle.eco_match.specs.declared.answer.TheConstants.{MAX_GATES};
 
 use crate::answer::MatchOut;
 use crate::pairs::Rows;
@@ -52,7 +54,7 @@ fn wanted(rows: &Rows, table: &Table<'_>, out: &MatchOut) -> usize
 
 /// How many gates the set has.
 fn members(rows: &Rows, out: &MatchOut) -> usize
-    requires { rows.now.gates < 129 }
+    requires { rows.now.gates < PLACES }
     ensures { result ≡ sum_below (λ g. one_if (out_short out.now g)) rows.now.gates }
 {
     let mut count = 0;
@@ -97,7 +99,7 @@ fn is_chosen(rows: &Rows, table: &Table<'_>, out: &MatchOut, gate: usize) -> boo
 
 /// The price of a spare: that of the gate that has it, or 0.
 fn price_of(out: &MatchOut, count: usize, spare: u64) -> i128
-    requires count { count < 129 }
+    requires count { count < PLACES }
     requires prices { NoneNegative out.now count }
     ensures price { result ≡ signed_price_of (out_spare out.now) (out_price out.now) count spare }
     ensures low { pos 0 ≤ℤ result }
@@ -114,7 +116,7 @@ fn price_of(out: &MatchOut, count: usize, spare: u64) -> i128
 
 /// Whether a gate's worth less the price of a pair's spare is at most the pair's cost.
 fn keeps_rule(table: &Table<'_>, out: &MatchOut, count: usize, gate: usize, pair: usize) -> bool
-    requires count { (count < 129) × (gate < count) }
+    requires count { (count < PLACES) × (gate < count) }
     requires prices { NoneNegative out.now count }
     requires pair { pair < length table.now.spares.now }
     requires costs { length table.now.costs.now ≡ length table.now.spares.now }
@@ -127,7 +129,7 @@ fn keeps_rule(table: &Table<'_>, out: &MatchOut, count: usize, gate: usize, pair
 
 /// Whether all pairs of a gate keep the rule.
 fn row_keeps(table: &Table<'_>, out: &MatchOut, count: usize, gate: usize) -> bool
-    requires count { (count < 129) × (gate < count) }
+    requires count { (count < PLACES) × (gate < count) }
     requires prices { NoneNegative out.now count }
     requires ends { length table.now.ends.now ≡ length table.now.starts.now }
     requires inside { gate + 1 < length table.now.ends.now }
@@ -160,7 +162,7 @@ fn all_chosen(rows: &Rows, table: &Table<'_>, out: &MatchOut) -> bool
 
 /// Whether no gate before this one has its spare.
 fn differs(out: &MatchOut, gate: usize) -> bool
-    requires { gate < 128 }
+    requires { gate < MAX_GATES }
     ensures { IsTrue result ↔ DiffersFromEarlier out.now gate }
 {
     for earlier in 0..gate {
@@ -173,7 +175,7 @@ fn differs(out: &MatchOut, gate: usize) -> bool
 
 /// Whether no two gates have one spare.
 fn all_differ(out: &MatchOut, count: usize) -> bool
-    requires { count < 129 }
+    requires { count < PLACES }
     ensures { IsTrue result ↔ AllDiffer out.now count }
 {
     for gate in 0..count {
@@ -186,7 +188,7 @@ fn all_differ(out: &MatchOut, count: usize) -> bool
 
 /// Whether all pairs of all gates keep the rule.
 fn all_keep(table: &Table<'_>, out: &MatchOut, count: usize) -> bool
-    requires count { count < 129 }
+    requires count { count < PLACES }
     requires prices { NoneNegative out.now count }
     requires ends { length table.now.ends.now ≡ length table.now.starts.now }
     requires inside { count < length table.now.ends.now }

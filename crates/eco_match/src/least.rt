@@ -1,10 +1,11 @@
-// A least mapping, or a short set.
+//! A least mapping, or a short set.
 ghost use Rattle.std.specs.Prelude.{◌≡◌, ℕ, ◌+◌, ◌<◌, ◌^◌, length};
-ghost use Rattle.eco_bench.specs.Region.{ChangesOnly, room_of};
+ghost use Rattle.eco_bench.specs.Region.{ChangesOnly, free_words};
 ghost use Rattle.eco_match.specs.MatchOut.{out_short, IsAnswer, IsExact};
 ghost use Rattle.eco_match.specs.Rows.{AreParts, AreRows, work_len, parts_cost, rows_cost};
 ghost use Rattle.eco_match.specs.Solve.{short_gate};
 ghost use Rattle.eco_match.specs.Work.{HasPlace};
+ghost use Rattle.eco_match.specs.declared.work.TheConstants.{PLACES};
 
 use crate::answer::{MatchOut, Matching};
 use crate::pairs::{Rows, table_of};
@@ -18,7 +19,7 @@ pub fn match_least(bench: &mut Bench, rows: &Rows, out: &mut MatchOut) -> Matchi
     requires rows { AreRows bench.old rows.now }
     ensures answer { IsAnswer rows.now.gates rows.now.spares (rows_cost bench.old rows.now) out.new result }
     ensures exact { IsExact rows.now.gates (rows_cost bench.old rows.now) out.new result }
-    ensures room { room_of bench.new ≡ room_of bench.old }
+    ensures room { free_words bench.new ≡ free_words bench.old }
     ensures kept { ChangesOnly bench.old bench.new rows.now.span }
     ensures rows { AreRows bench.new rows.now }
     ensures costs { rows_cost bench.new rows.now ≡ rows_cost bench.old rows.now }
@@ -48,13 +49,13 @@ fn match_parts(
     if solve(&table, owner, tree, out, rows.gates) {
         return Matching::Matched;
     }
-    tell_short(tree, rows.gates, out);
+    set_short(tree, rows.gates, out);
     Matching::Short
 }
 
-/// Tells the gates that the tree reached.
-fn tell_short(tree: &[u64], count: usize, out: &mut MatchOut)
-    requires count { count < 129 }
+/// Sets the short set: the gates that the tree reached.
+fn set_short(tree: &[u64], count: usize, out: &mut MatchOut)
+    requires count { count < PLACES }
     requires places { HasPlace tree.now count }
     ensures { (k : ℕ) → k < count → out_short out.new k ≡ short_gate tree.now k }
 {

@@ -1,9 +1,9 @@
-// Least mappings of gates onto spares, by augmenting paths of least reduced cost with worths and prices
-// (Kuhn 1955, Munkres 1957; Jonker and Volgenant 1987).
+//! Least mappings of gates onto spares, by augmenting paths of least reduced cost with worths and prices
+//! (Kuhn 1955, Munkres 1957; Jonker and Volgenant 1987).
 #![tactic(auto)]
 
-ghost use Rattle.std.specs.Prelude.{◌≡◌, ℕ, ◌≤◌, Option, Bool, ℤ, length};
-ghost use Rattle.eco_bench.specs.Region.{Area, Stands, words_of};
+ghost use Rattle.std.specs.Prelude.{◌≡◌, ℕ, Option, Bool, ℤ};
+ghost use Rattle.eco_bench.specs.Region.{Area, IsCarved, IsStanding, words_of};
 ghost use Rattle.eco_match.specs.declared.pairs.Rows.{Rows};
 ghost use Rattle.eco_match.specs.Least.{IsLeast, HasNone, Certifies, IsShort, AreBelow, AreSameCosts};
 ghost use Rattle.eco_match.specs.MatchOut.{IsAnswer, IsExact};
@@ -15,12 +15,13 @@ mod answer;
 mod checks;
 mod least;
 mod pairs;
+mod phase;
 mod search;
 mod solve;
 mod table;
 mod work;
 
-pub use answer::{MatchOut, Matching};
+pub use answer::{MAX_GATES, MatchOut, Matching};
 pub use checks::{check_prices, check_short};
 pub use least::match_least;
 pub use pairs::{Rows, bench_need};
@@ -37,7 +38,7 @@ pub fn short_implies_none()
 
 /// Rows stand, with the same costs, as long as their span stands and holds the same words.
 pub fn rows_stand_with_their_words()
-    ensures stand { (old new : Area) → (rows : Rows) → AreRows old rows → Stands new rows.span → new.used ≤ length new.words → words_of new rows.span ≡ words_of old rows.span → AreRows new rows }
+    ensures stand { (old new : Area) → (rows : Rows) → AreRows old rows → IsStanding new rows.span → IsCarved new → words_of new rows.span ≡ words_of old rows.span → AreRows new rows }
     ensures costs { (old new : Area) → (rows : Rows) → words_of new rows.span ≡ words_of old rows.span → rows_cost new rows ≡ rows_cost old rows }
 {}
 

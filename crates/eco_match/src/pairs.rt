@@ -1,11 +1,14 @@
-// The candidate pairs of a matching and their costs, in a span of a bench.
-ghost use Rattle.std.specs.Prelude.{◌≡◌, ℕ, ◌+◌, ◌*◌, ◌≤◌, ◌<◌, length, slice_index, take, drop, ◌^◌, ◌-◌, None};
-ghost use Rattle.eco_bench.specs.declared.Span.{Span};
-ghost use Rattle.eco_bench.specs.Region.{Stands, ChangesOnly, room_of, words_of};
+//! The candidate pairs of a matching and their costs, in a span of a bench.
+ghost use Rattle.std.specs.Prelude.{◌≡◌, ℕ, ◌+◌, ◌*◌, ◌≤◌, ◌<◌, length, slice_index, take, drop, ◌^◌, ◌-◌, ◌∷◌, None};
+ghost use Rattle.eco_bench.specs.declared.span.Span.{Span};
+ghost use Rattle.eco_bench.specs.Region.{IsStanding, ChangesOnly, free_words, words_of};
 ghost use Rattle.eco_match.specs.Rows.{AreParts, AreRows, IsTableOf, starts_of, ends_of, parts_cost, rows_cost, need, work_len, PairWritten, ComesNext, with_pair, wider};
 ghost use Rattle.eco_match.specs.Table.{table_cost, find_cost};
+ghost use Rattle.eco_match.specs.declared.work.TheConstants.{PLACES};
+ghost use Rattle.eco_match.specs.declared.answer.TheConstants.{MAX_GATES};
 
 use crate::table::{Table, pair_of};
+use crate::work::PLACE_WORDS;
 use eco_bench::{Bench, Span};
 
 /// Where the rows of a matching stand in a bench. The words of the span are: where the row of each
@@ -34,23 +37,24 @@ pub fn bench_need(gates: u32, spares: u32, pairs: u32) -> usize
 impl Rows {
     /// How many words the search works in: an owner for each spare, and five words for each place.
     pub(crate) fn work_words(&self) -> usize
-        requires few { (self.now.gates < 129) × (self.now.spares < 2 ^ 32) }
+        requires few { (self.now.gates < PLACES) × (self.now.spares < 2 ^ 32) }
         ensures { result ≡ work_len self.now }
     {
-        self.spares + 5 * (self.gates + 1)
+        self.spares + PLACE_WORDS * (self.gates + 1)
     }
 
     /// Carves the words of a problem, with no pair yet.
     pub fn begin(bench: &mut Bench, gates: u32, spares: u32, pairs: u32) -> Rows
-        requires room { need gates spares pairs ≤ room_of bench.old }
-        requires gates { gates ≤ 128 }
+        requires room { need gates spares pairs ≤ free_words bench.old }
+        requires gates { gates ≤ MAX_GATES }
         ensures sizes { (result.gates ≡ gates) × (result.spares ≡ spares) × (result.pairs ≡ pairs) × (result.filled ≡ 0) }
         ensures rows { AreRows bench.new result }
         ensures empty { (g s : ℕ) → rows_cost bench.new result g s ≡ None }
         ensures span { (result.span.start ≡ bench.old.used) × (result.span.len ≡ need gates spares pairs) }
+        ensures standing { bench.new.standing ≡ result.span ∷ bench.old.standing }
         ensures used { bench.new.used ≡ bench.old.used + need gates spares pairs }
         ensures size { length bench.new.words ≡ length bench.old.words }
-        ensures kept { (other : Span) → Stands bench.old other → words_of bench.new other ≡ words_of bench.old other }
+        ensures kept { (other : Span) → IsStanding bench.old other → words_of bench.new other ≡ words_of bench.old other }
     {
         let span = bench.carve(bench_need(gates, spares, pairs));
         let rows = Rows {
@@ -64,7 +68,7 @@ impl Rows {
         rows
     }
 
-    /// Adds a pair behind the others: pairs come by rising gate, and of a gate by rising spare.
+    /// Adds a pair after the others: pairs are added by rising gate, and for each gate by rising spare.
     pub fn add(&mut self, bench: &mut Bench, gate: u32, spare: u32, cost: u64)
         requires rows { AreRows bench.old self.old }
         requires gate { gate < self.old.gates }
@@ -134,7 +138,7 @@ fn clear(words: &mut [u64], count: usize)
     }
 }
 
-/// Writes a pair behind the others, and widens the row of its gate.
+/// Writes a pair after the others, and extends the row of its gate.
 fn write_pair(
     rows: &Rows,
     head: &mut [u64],

@@ -1,10 +1,10 @@
-// The table of the candidate pairs, gate by gate.
+//! The table of the candidate pairs, gate by gate.
 ghost use Rattle.std.specs.Prelude.{◌≡◌, ℕ, ◌+◌, ◌-◌, ◌≤◌, ◌<◌, length, slice_index};
 ghost use Rattle.eco_match.specs.Table.{AreRising, table_cost, find_cost};
 
 /// The pairs of all gates. Those of gate g stand together, by rising spares: they are the places from
 /// `starts[g + 1]` to `ends[g + 1]` of `spares` and `costs`.
-#[derive(Drop)]
+#[derive(Clone, Copy)]
 pub struct Table<'a> {
     pub starts: &'a [u64],
     pub ends: &'a [u64],

@@ -1,6 +1,6 @@
-// Answers for worked tables, for random tables against a search of all mappings, and for a wide table.
+//! Answers for worked tables, for random tables against a search of all mappings, and for a wide table.
 ghost use Rattle.std.specs.Prelude.{◌≡◌, ℕ, ◌+◌, ◌*◌, ◌^◌, ◌≤◌, ◌<◌, length};
-ghost use Rattle.eco_bench.specs.Region.{room_of};
+ghost use Rattle.eco_bench.specs.Region.{free_words};
 ghost use Rattle.eco_match.specs.Rows.{AreRows, ComesNext, rows_cost, need};
 
 use super::*;
@@ -37,7 +37,7 @@ fn add_row(bench: &mut Bench, rows: &mut Rows, gate: u32, costs: &Row)
 /// Rows with the pairs of all gates.
 fn rows_of(bench: &mut Bench, costs: &[Row]) -> Rows
     requires gates { length costs.now ≤ 128 }
-    requires room { need (length costs.now) 5 (5 * length costs.now) ≤ room_of bench.old }
+    requires room { need (length costs.now) 5 (5 * length costs.now) ≤ free_words bench.old }
     ensures rows { AreRows bench.new result }
     ensures gates { result.gates ≡ length costs.now }
 {
@@ -91,7 +91,7 @@ fn cost_of(costs: &[Row], out: &MatchOut) -> Option<u64>
     Some(total)
 }
 
-/// The total of a matching, or None where its set of gates is short, with all that the calls tell.
+/// The total of a matching, or None where its set of gates is short, with all that the calls answer.
 fn matched<R: Abort + AllocGlobal>(rt: &R, costs: &[Row]) -> Result<Option<u64>, Fail>
     requires { length costs.now ≤ 128 }
 {
@@ -282,7 +282,7 @@ fn add_wide_row(bench: &mut Bench, rows: &mut Rows, gate: u32, spares: u32)
 
 /// Rows with all pairs of 128 gates and 8,192 spares.
 fn wide_rows(bench: &mut Bench) -> Rows
-    requires { need 128 8192 1048576 ≤ room_of bench.old }
+    requires { need 128 8192 1048576 ≤ free_words bench.old }
     ensures { AreRows bench.new result }
 {
     let mut rows = Rows::begin(bench, 128, 8192, 1048576);

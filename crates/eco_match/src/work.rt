@@ -1,13 +1,29 @@
-// The numbers that the search works on. Gate k of the caller is place k + 1, and place 0 stands for all
-// free spares. A place has five words of the region: its rank, how far it is (two words), and the gate
-// and the pair that lead to it. The worth of a gate and the price of its spare stand in the answer.
+//! The numbers that the search works on. Gate k of the caller is place k + 1, and place 0 stands for all
+//! free spares. A place has five words of the region: its rank, how far it is (two words), and the gate
+//! and the pair that lead to it. The worth of a gate and the price of its spare stand in the answer.
 ghost use Rattle.std.specs.Prelude.{◌≡◌, ℕ, ◌+◌, ◌-◌, ◌*◌, ◌^◌, ◌≤◌, ◌<◌, ◌≢◌, length, slice_index, slice_set};
 ghost use Rattle.eco_match.specs.Work.{HasPlace, rank_at, far_at, from_at, via_at, natural, worth_at, price_at, SetsRank, SetsLink, SetsWorth, SetsPrice};
+ghost use Rattle.eco_match.specs.declared.work.TheConstants.{PLACES};
 
-use crate::answer::MatchOut;
+use crate::answer::{MAX_GATES, MatchOut};
 
 /// Farther than any place that a pair leads to.
 pub const NOWHERE: u128 = 1 << 127;
+
+/// How many places there are: one for each of at most 128 gates, and place 0.
+pub const PLACES: usize = MAX_GATES + 1;
+
+/// How many words of the region a place has. The first is its rank.
+pub const PLACE_WORDS: usize = 5;
+
+// The other words of a place: how far it is, and the gate and the pair that lead to it.
+const FAR_LOW: usize = 1;
+
+const FAR_HIGH: usize = 2;
+
+const FROM: usize = 3;
+
+const VIA: usize = 4;
 
 /// What the second word of a number counts.
 const WORD: u128 = 1 << 64;
@@ -17,7 +33,7 @@ pub fn rank_of(tree: &[u64], place: usize) -> usize
     requires { HasPlace tree.now place }
     ensures { result ≡ rank_at tree.now place }
 {
-    tree[5 * place] as usize
+    tree[PLACE_WORDS * place] as usize
 }
 
 /// How far a place is.
@@ -25,7 +41,8 @@ pub fn far_of(tree: &[u64], place: usize) -> u128
     requires { HasPlace tree.now place }
     ensures { result ≡ far_at tree.now place }
 {
-    u128::from(tree[5 * place + 1]) + WORD * u128::from(tree[5 * place + 2])
+    u128::from(tree[PLACE_WORDS * place + FAR_LOW])
+        + WORD * u128::from(tree[PLACE_WORDS * place + FAR_HIGH])
 }
 
 /// The gate that leads to a place.
@@ -33,7 +50,7 @@ pub fn from_of(tree: &[u64], place: usize) -> usize
     requires { HasPlace tree.now place }
     ensures { result ≡ from_at tree.now place }
 {
-    tree[5 * place + 3] as usize
+    tree[PLACE_WORDS * place + FROM] as usize
 }
 
 /// The pair that leads to a place.
@@ -41,7 +58,7 @@ pub fn via_of(tree: &[u64], place: usize) -> usize
     requires { HasPlace tree.now place }
     ensures { result ≡ via_at tree.now place }
 {
-    tree[5 * place + 4] as usize
+    tree[PLACE_WORDS * place + VIA] as usize
 }
 
 /// Sets the rank of a place.
@@ -49,7 +66,7 @@ pub fn set_rank(tree: &mut [u64], place: usize, rank: usize)
     requires { HasPlace tree.old place }
     ensures { SetsRank place rank tree.old tree.new }
 {
-    tree[5 * place] = rank as u64;
+    tree[PLACE_WORDS * place] = rank as u64;
 }
 
 /// Sets how far a place is, and what leads to it.
@@ -57,10 +74,10 @@ pub fn set_link(tree: &mut [u64], place: usize, far: u128, from: usize, via: usi
     requires { HasPlace tree.old place }
     ensures { SetsLink place far from via tree.old tree.new }
 {
-    tree[5 * place + 1] = (far % WORD) as u64;
-    tree[5 * place + 2] = (far / WORD) as u64;
-    tree[5 * place + 3] = from as u64;
-    tree[5 * place + 4] = via as u64;
+    tree[PLACE_WORDS * place + FAR_LOW] = (far % WORD) as u64;
+    tree[PLACE_WORDS * place + FAR_HIGH] = (far / WORD) as u64;
+    tree[PLACE_WORDS * place + FROM] = from as u64;
+    tree[PLACE_WORDS * place + VIA] = via as u64;
 }
 
 /// A number of the answer as the search counts it: one below 0 is past all others.
@@ -76,7 +93,7 @@ fn natural_of(number: i128) -> u128
 
 /// What the gate at a place is worth.
 pub fn worth_of(out: &MatchOut, place: usize) -> u128
-    requires { (0 < place) × (place < 129) }
+    requires { (0 < place) × (place < PLACES) }
     ensures { result ≡ worth_at out.now place }
 {
     natural_of(out.worth[place - 1])
@@ -84,7 +101,7 @@ pub fn worth_of(out: &MatchOut, place: usize) -> u128
 
 /// The price of the spare of the gate at a place; a free spare has none.
 pub fn price_of(out: &MatchOut, place: usize) -> u128
-    requires { place < 129 }
+    requires { place < PLACES }
     ensures { result ≡ price_at out.now place }
 {
     if place == 0 {
@@ -96,7 +113,7 @@ pub fn price_of(out: &MatchOut, place: usize) -> u128
 
 /// Sets what the gate at a place is worth.
 pub fn set_worth(out: &mut MatchOut, place: usize, worth: u128)
-    requires place { (0 < place) × (place < 129) }
+    requires place { (0 < place) × (place < PLACES) }
     requires worth { worth < 2 ^ 127 }
     ensures { SetsWorth place worth out.old out.new }
 {
@@ -105,7 +122,7 @@ pub fn set_worth(out: &mut MatchOut, place: usize, worth: u128)
 
 /// Sets the price of the spare of the gate at a place.
 pub fn set_price(out: &mut MatchOut, place: usize, price: u128)
-    requires place { (0 < place) × (place < 129) }
+    requires place { (0 < place) × (place < PLACES) }
     requires price { price < 2 ^ 127 }
     ensures { SetsPrice place price out.old out.new }
 {

@@ -6,6 +6,7 @@ use Rattle.std.proofs.lemmas.List.{length_push, map_push, length-map, length-rep
 use Rattle.std.proofs.lemmas.List.Folds.{list_any-append}
 use Rattle.std.specs.Cmp.Lexicographic.{nat_list_cmp_total}
 use Rattle.std.specs.FinMap.{FinMap, get, insert, empty, get-insert, get-empty}
+use Rattle.eco_common.specs.declared.limits.TheConstants.{MAX_LISTED_NETS, MAX_LISTED_COMPS, MAX_TOP_PINS}
 use Rattle.eco_net.specs.declared.rows.NetRow.{NetRow}
 use Rattle.eco_net.specs.declared.rows.CompRow.{CompRow}
 use Rattle.eco_net.specs.declared.rows.TopRow.{TopRow}
@@ -39,7 +40,7 @@ row_more : (n m : ℕ) (r : CompRow) → n ≤ m → IsRow n r → IsRow m r
 row_more n m r h row = record { kind = row.kind; each_pin = row.each_pin; known = λ k i e. let l : i < n = row.known k i e in omega (arith, l) }
 
 module _ (L : Listing) (a b c : FinMap name_cmp ℕ) (is : IsIndexed L a b c) where
-  pub net_added : (row : NetRow) → get (netlist L).nets row.name ≡ None → length L.nets < 9000000 → IsIndexed (record L { nets = L.nets ++ row ∷ [] }) (insert a row.name (length L.nets)) b c
+  pub net_added : (row : NetRow) → get (netlist L).nets row.name ≡ None → length L.nets < MAX_LISTED_NETS → IsIndexed (record L { nets = L.nets ++ row ∷ [] }) (insert a row.name (length L.nets)) b c
   net_added row new few =
       let more : length (L.nets ++ row ∷ []) ≡ length L.nets + 1 = length_push L.nets row in
       let names : map (λ r. r.name) (L.nets ++ row ∷ []) ≡ map (λ r. r.name) L.nets ++ row.name ∷ [] = map_push (λ r. r.name) L.nets row in
@@ -61,7 +62,7 @@ module _ (L : Listing) (a b c : FinMap name_cmp ℕ) (is : IsIndexed L a b c) wh
         reserved = is.reserved;
       }
 
-  pub comp_added : (row : CompRow) → get (netlist L).comps row.name ≡ None → length L.comps < 1100000 → IsRow (length L.nets) row → IsIndexed (record L { comps = L.comps ++ row ∷ [] }) a (insert b row.name (length L.comps)) c
+  pub comp_added : (row : CompRow) → get (netlist L).comps row.name ≡ None → length L.comps < MAX_LISTED_COMPS → IsRow (length L.nets) row → IsIndexed (record L { comps = L.comps ++ row ∷ [] }) a (insert b row.name (length L.comps)) c
   comp_added row new few kept =
       let more : length (L.comps ++ row ∷ []) ≡ length L.comps + 1 = length_push L.comps row in
       let names : map (λ r. r.name) (L.comps ++ row ∷ []) ≡ map (λ r. r.name) L.comps ++ row.name ∷ [] = map_push (λ r. r.name) L.comps row in
@@ -83,7 +84,7 @@ module _ (L : Listing) (a b c : FinMap name_cmp ℕ) (is : IsIndexed L a b c) wh
         reserved = is.reserved;
       }
 
-  pub top_added : (row : TopRow) → get (netlist L).tops row.name ≡ None → length L.tops < 1000000 → row.net < length L.nets → IsIndexed (record L { tops = L.tops ++ row ∷ [] }) a b c
+  pub top_added : (row : TopRow) → get (netlist L).tops row.name ≡ None → length L.tops < MAX_TOP_PINS → row.net < length L.nets → IsIndexed (record L { tops = L.tops ++ row ∷ [] }) a b c
   top_added row new few known =
       let more : length (L.tops ++ row ∷ []) ≡ length L.tops + 1 = length_push L.tops row in
       record {
@@ -234,7 +235,7 @@ none_of_none zero k i e = not_None (sym e)
 none_of_none (suc n) zero i e = not_None (sym (same_Some e))
 none_of_none (suc n) (suc k) i e = none_of_none n k i e
 
--- a row with its pins on no net
+-- a row with its unconnected pins
 pub row_of_none : (m : ℕ) (row : CompRow) → IsKind (kind_of row.kind) → (n : ℕ) → n ≡ length (pins row) → row.joined ≡ replicate n None → IsRow m row
 row_of_none m row kind n e f = record {
   kind = kind;

@@ -53,7 +53,7 @@ pub tied_alike : (nets : List NetRow) (n i : ℕ) → net_name (with_tie nets n)
 tied_alike nets n i =
     ap (λ o. unwrap_or o []) (sym (slice_get-map (λ r. r.name) (with_tie nets n) i) ∙ ap (λ ns. slice_get ns i) (tie_names nets n) ∙ slice_get-map (λ r. r.name) nets i)
 
--- ---- pins on no net
+-- ---- unconnected pins
 
 pub joints_none : (nets : List NetRow) (ps : List (Name × Role)) (n : ℕ) → joints nets ps (replicate n None) ≡ []
 joints_none nets [] n = refl

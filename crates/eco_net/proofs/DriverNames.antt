@@ -19,7 +19,7 @@ use Rattle.eco_net.proofs.PinNames.{drives_net, driven_named, pin_driving, same_
 use Rattle.eco_net.proofs.AllPins.{has_known, known_has, has_filter, filter_has, on_net, net_on, pins_sorted}
 
 -- no pin stands before itself
-not_less : (p q : PinRef) → pin_order p q ≡ Less → p ≡ q → ⊥
+pub not_less : (p q : PinRef) → pin_order p q ≡ Less → p ≡ q → ⊥
 not_less p q h e = not_both (sym h ∙ ap (pin_order p) (sym e) ∙ tied_itself (on_total pin_number nat_list_cmp_total) p)
   where
     not_both : Less ≡ Equal → ⊥

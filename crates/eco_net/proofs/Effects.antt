@@ -7,8 +7,8 @@ use Rattle.std.specs.Cmp.Lexicographic.{nat_list_cmp_total}
 use Rattle.std.specs.FinMap.{FinMap, get, insert, from_entries, get-from_entries, get-insert, get-remove, remove, from_entries_push, same_map}
 use Rattle.std.specs.FinSet as set
 use Rattle.std.proofs.lemmas.Map.Lookups.{exact_bytes}
-use Rattle.eco_text.specs.declared.geometry.Dir.{Dir}
-use Rattle.eco_text.specs.declared.geometry.Point.{Point}
+use Rattle.eco_common.specs.declared.geometry.Dir.{Dir}
+use Rattle.eco_common.specs.declared.geometry.Point.{Point}
 use Rattle.eco_net.specs.declared.kind.Kind.{Kind as Given}
 use Rattle.eco_net.specs.declared.ids.CompId.{CompId}
 use Rattle.eco_net.specs.declared.ids.PinRef.TheVariants.{Pin}
@@ -60,7 +60,7 @@ module _ (L : Listing) (is : IsListing L) where
       ties : filter (λ (r : NetRow). r.tie) (L.nets ++ row ∷ []) ≡ filter (λ r. r.tie) L.nets
       ties = filter-append (λ (r : NetRow). r.tie) L.nets (row ∷ []) ∙ append-nil (filter (λ r. r.tie) L.nets)
 
-  -- a component is added with its pins on no net, and nothing else changes
+  -- a component is added with its unconnected pins, and nothing else changes
   pub comp_is_added : (name : Name) (kind : Given) (place : Option Point) → get (netlist L).comps name ≡ None →
       netlist (record L { comps = L.comps ++ record { name = name; kind = kind; place = place; joined = replicate (length (pins_of (kind_of kind))) None } ∷ [] })
       ≡ with_comp (netlist L) name (kind_of kind) place

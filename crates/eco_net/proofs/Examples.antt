@@ -1,19 +1,20 @@
 -- A small netlist by computing the definitions: a half adder with a table for each of its two outputs, whose one input is the
--- chip's and whose other is a register's, so a box's; a supply as the low tie net, a gate without inputs behind the high one;
--- an inverter whose input is on no net and whose output meets an INOUT pin of the chip; and a box with an INOUT pin.
+-- chip's and whose other is a register's, so a box's; a supply as the low tie net, a gate without inputs after the high one;
+-- an inverter whose input is unconnected and whose output meets an INOUT pin of the chip; and a box with an INOUT pin.
 use Rattle.std.proofs.Common.{◌≡◌, ◌≢◌, ℕ, zero, suc, ◌<◌, Bool, true, false, List, [], ◌∷◌, map, Some, None, refl, sym, ap, ap₂, ◌∙◌, subst, inl, inr, codes, true≢false, arith}
 use Rattle.std.specs.Prelude.{slice_index_or, length}
 use Rattle.std.specs.List.{Contains, IsDistinct}
 use Rattle.std.specs.Option.{unwrap_or}
 use Rattle.std.specs.FinMap.{get}
-use Rattle.eco_text.specs.declared.geometry.Dir.TheVariants.{Input, Output, Inout}
+use Rattle.eco_common.specs.declared.geometry.Dir.TheVariants.{Input, Output, Inout}
 use Rattle.eco_net.specs.Netlist.{Name, Gate, Boxed, Netlist, Pin, TopPin, CompPin, Computes, IsWhole}
 use Rattle.eco_net.specs.Drivers.{driven, IsDriver, Computed, IsComputed, IsFree, IsSink, joined_at}
 use Rattle.eco_net.specs.Walks.{ReadsNet, IsLoopFree}
 use Rattle.eco_net.specs.Depth.{IsDepth, Behind}
 use Rattle.eco_net.specs.CutKeys.{is_source_pin, PinKey, NetKey, KeyOf, IsCutKey, CutBits, is_source_at, is_source_top}
 use Rattle.eco_net.specs.Observables.{IsObservable, ObservedTop, ObservedAt, ObservedRole, observed, value_at}
-use Rattle.eco_net.specs.Valuation.{Valuation, IsValuation, HasOneValuation, look, read, row}
+use Rattle.eco_func.specs.Tables.{row}
+use Rattle.eco_net.specs.Valuation.{Valuation, IsValuation, HasOneValuation, table_value, read}
 use Rattle.eco_net.proofs.Lists.{Part, Lists, made, component, driver_by, driven_made, net_made, top_made, comp_made, joined_made, inputs_made, computed_by, free_top, free_box, free_several, EachReads, reads_by, whole_by, EachFits}
 use Rattle.eco_net.proofs.Basics.{Has, has_from_contains, same_Some, not_None, same_head}
 use Rattle.eco_net.proofs.Decide.{same_comp}
@@ -29,11 +30,11 @@ last_is_high : row (false ∷ true ∷ []) ≡ 2
 last_is_high = refl
 
 -- NAND2, row 0 first
-nand : look (true ∷ true ∷ true ∷ false ∷ []) (true ∷ true ∷ []) ≡ false
+nand : table_value (true ∷ true ∷ true ∷ false ∷ []) (true ∷ true ∷ []) ≡ false
 nand = refl
 
 -- A NOT B: with A alone the row is 1
-and_not : look (false ∷ true ∷ false ∷ false ∷ []) (true ∷ false ∷ []) ≡ true
+and_not : table_value (false ∷ true ∷ false ∷ false ∷ []) (true ∷ false ∷ []) ≡ true
 and_not = refl
 
 -- with the last bit lowest it would be row 2, where A NOT B is 0
@@ -44,7 +45,7 @@ row_from_last bs = row (reversed bs [])
     reversed [] ys = ys
     reversed (x ∷ xs) ys = reversed xs (x ∷ ys)
 
-not_from_last : slice_index_or (false ∷ true ∷ false ∷ false ∷ []) (row_from_last (true ∷ false ∷ [])) false ≢ look (false ∷ true ∷ false ∷ false ∷ []) (true ∷ false ∷ [])
+not_from_last : slice_index_or (false ∷ true ∷ false ∷ false ∷ []) (row_from_last (true ∷ false ∷ [])) false ≢ table_value (false ∷ true ∷ false ∷ false ∷ []) (true ∷ false ∷ [])
 unfolding row_from_last
 not_from_last e = true≢false (sym e)
 
@@ -116,7 +117,7 @@ other_pins e = cc
 no_drive : driven N (TopPin (codes "s")) ≡ None
 no_drive = driven_made lists (TopPin (codes "s"))
 
--- nor does a pin on no net
+-- nor does an unconnected pin
 no_net : driven N (CompPin (codes "i1") (codes "A")) ≡ None
 no_net = driven_made lists (CompPin (codes "i1") (codes "A"))
 
@@ -305,22 +306,22 @@ module _ (cut : CutBits) (v : Valuation) (is : IsValuation N cut v) (x z : Bool)
   reads_both = ap₂ {C = List Bool} (λ b c. b ∷ c ∷ []) (ap (λ o. unwrap_or o false) a_is) (ap (λ o. unwrap_or o false) q_is)
 
   -- the sum is the first bit of x + z, the carry the second
-  sum_is : get v (codes "sum") ≡ Some (look (false ∷ true ∷ true ∷ false ∷ []) (x ∷ z ∷ []))
-  sum_is = is.computed (codes "sum") _ _ sum_computed ∙ ap (λ bs. Some (look (false ∷ true ∷ true ∷ false ∷ []) bs)) reads_both
+  sum_is : get v (codes "sum") ≡ Some (table_value (false ∷ true ∷ true ∷ false ∷ []) (x ∷ z ∷ []))
+  sum_is = is.computed (codes "sum") _ _ sum_computed ∙ ap (λ bs. Some (table_value (false ∷ true ∷ true ∷ false ∷ []) bs)) reads_both
 
-  carry_is : get v (codes "carry") ≡ Some (look (false ∷ false ∷ false ∷ true ∷ []) (x ∷ z ∷ []))
-  carry_is = is.computed (codes "carry") _ _ carry_computed ∙ ap (λ bs. Some (look (false ∷ false ∷ false ∷ true ∷ []) bs)) reads_both
+  carry_is : get v (codes "carry") ≡ Some (table_value (false ∷ false ∷ false ∷ true ∷ []) (x ∷ z ∷ []))
+  carry_is = is.computed (codes "carry") _ _ carry_computed ∙ ap (λ bs. Some (table_value (false ∷ false ∷ false ∷ true ∷ []) bs)) reads_both
 
   -- what the register reads
-  register_is : observed N v (CompPin (codes "r1") (codes "D")) ≡ look (false ∷ true ∷ true ∷ false ∷ []) (x ∷ z ∷ [])
+  register_is : observed N v (CompPin (codes "r1") (codes "D")) ≡ table_value (false ∷ true ∷ true ∷ false ∷ []) (x ∷ z ∷ [])
   register_is = ap (λ o. value_at v o (codes "D")) (comp_made lists (codes "r1")) ∙ ap (read v) (joined_made register (codes "D")) ∙ ap (λ o. unwrap_or o false) sum_is
 
   -- the inverter reads 0 on no net, whatever is on pad
   inverter_is : observed N v (CompPin (codes "i1") (codes "Y")) ≡ true
-  inverter_is = ap (λ o. value_at v o (codes "Y")) (comp_made lists (codes "i1")) ∙ ap (λ ins. look (true ∷ false ∷ []) (map (read v) ins)) (inputs_made inverter)
+  inverter_is = ap (λ o. value_at v o (codes "Y")) (comp_made lists (codes "i1")) ∙ ap (λ ins. table_value (true ∷ false ∷ []) (map (read v) ins)) (inputs_made inverter)
 
-both_high : look (false ∷ true ∷ true ∷ false ∷ []) (true ∷ true ∷ []) ≡ false
+both_high : table_value (false ∷ true ∷ true ∷ false ∷ []) (true ∷ true ∷ []) ≡ false
 both_high = refl
 
-one_high : look (false ∷ true ∷ true ∷ false ∷ []) (true ∷ false ∷ []) ≡ true
+one_high : table_value (false ∷ true ∷ true ∷ false ∷ []) (true ∷ false ∷ []) ≡ true
 one_high = refl

@@ -4,7 +4,7 @@ use Rattle.std.specs.Option.{option_map}
 use Rattle.std.specs.FinMap.{get}
 use Rattle.std.proofs.lemmas.Option.{slice_get_within, get_or_from_slice_get}
 use Rattle.std.proofs.lemmas.List.{length-map, same_lists, get_or-map, get_or-take, length-take-le}
-use Rattle.eco_text.specs.declared.geometry.Dir.{Dir}
+use Rattle.eco_common.specs.declared.geometry.Dir.{Dir}
 use Rattle.eco_func.specs.Masters.{MasterTables}
 use Rattle.eco_net.specs.declared.kind.Kind.{Kind}
 use Rattle.eco_net.specs.declared.kind.Kind.TheVariants.{Gate, Boxed}

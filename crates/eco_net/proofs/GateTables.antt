@@ -1,16 +1,16 @@
 -- A gate's tables are over its inputs, and what one gives at some bits
-use Rattle.std.proofs.Common.{◌≡◌, ℕ, ◌+◌, ◌*◌, ◌^◌, ◌<◌, Bool, true, false, cond, List, [], ◌∷◌, map, length, Option, Some, None, refl, sym, ap, ◌∙◌, subst, arith, slice_get, ⊎_elim}
+use Rattle.std.proofs.Common.{◌≡◌, ℕ, ◌^◌, ◌<◌, Bool, true, false, List, [], ◌∷◌, map, length, Option, Some, None, refl, sym, ap, ◌∙◌, subst, arith, slice_get, ⊎_elim}
 use Rattle.std.specs.Option.{option_map, unwrap_or}
 use Rattle.std.proofs.Math.Nat.{pow-suc}
 use Rattle.std.proofs.lemmas.Bool.{cases_order}
 use Rattle.std.proofs.lemmas.Nat.{pow_below}
 use Rattle.std.proofs.lemmas.Option.{unwrap_or-slice_get}
 use Rattle.std.proofs.lemmas.List.FromFn.{length-map-range_with_len, get_or-map-range_with_len}
-use Rattle.eco_func.specs.Tables.{TruthTable, at, row as row_of, look as look_up}
+use Rattle.eco_func.specs.Tables.{TruthTable, at, row, look}
 use Rattle.eco_net.specs.declared.kind.Kind.{Kind}
 use Rattle.eco_net.specs.declared.kind.Kind.TheVariants.{Gate, Boxed}
 use Rattle.eco_net.specs.Netlist.{Name, Role, Reads, Computes, pins_of, HasRows}
-use Rattle.eco_net.specs.Valuation.{row, look}
+use Rattle.eco_net.specs.Valuation.{table_value}
 use Rattle.eco_net.specs.Listing.{Listing, bits_of, kind_of}
 use Rattle.eco_net.specs.ByNumber.{role_at}
 use Rattle.eco_net.specs.Gates.{input_count, inputs_at}
@@ -22,19 +22,13 @@ use Rattle.eco_net.proofs.InOrder.{ByInputs}
 
 -- ---- the value of a table
 
-row_within : (bits : List Bool) → row bits < 2 ^ length bits
+pub row_within : (bits : List Bool) → row bits < 2 ^ length bits
 row_within [] = omega arith
 row_within (true ∷ bits) = omega (arith, row_within bits, pow-suc 2 (length bits))
 row_within (false ∷ bits) = omega (arith, row_within bits, pow-suc 2 (length bits))
 
-same_row : (bits : List Bool) → row bits ≡ row_of bits
-same_row [] = refl
-same_row (b ∷ bits) = ap (λ n. cond b 1 0 + 2 * n) (same_row bits)
-
-pub look_is : (t : TruthTable) (bits : List Bool) → length bits ≡ t.inputs → look (bits_of t) bits ≡ look_up t bits
-look_is t bits e =
-    get_or-map-range_with_len (at t) 0 (2 ^ t.inputs) (row bits) (row bits) false (subst (λ n. row bits < 2 ^ n) e (row_within bits)) (omega arith)
-    ∙ ap (at t) (same_row bits)
+pub look_is : (t : TruthTable) (bits : List Bool) → length bits ≡ t.inputs → table_value (bits_of t) bits ≡ look t bits
+look_is t bits e = get_or-map-range_with_len (at t) 0 (2 ^ t.inputs) (row bits) (row bits) false (subst (λ n. row bits < 2 ^ n) e (row_within bits)) (omega arith)
 
 -- ---- the inputs of a table
 

@@ -1,9 +1,9 @@
 -- Which names the pins of a gate and of a box have
-use Rattle.std.proofs.Common.{◌≡◌, Bool, ◌||◌, List, [], ◌∷◌, map, refl, sym, ap, ap₂, ◌∙◌}
+use Rattle.std.proofs.Common.{◌≡◌, Bool, ◌||◌, List, [], ◌∷◌, map, refl, ap, ap₂, ◌∙◌}
 use Rattle.std.specs.List.{list_any}
 use Rattle.std.specs.Str.{bytes_eq}
 use Rattle.std.proofs.lemmas.List.Folds.{list_any-append}
-use Rattle.eco_text.specs.declared.geometry.Dir.{Dir}
+use Rattle.eco_common.specs.declared.geometry.Dir.{Dir}
 use Rattle.eco_func.specs.declared.output.OutputFn.{OutputFn}
 use Rattle.eco_func.specs.Masters.{MasterTables}
 use Rattle.eco_net.specs.declared.kind.BoxPin.{BoxPin}

@@ -1,5 +1,5 @@
 -- How many pins of components are on a net, by the rows and by the netlist
-use Rattle.std.proofs.Common.{◌≡◌, ℕ, suc, ◌+◌, ◌≤◌, cond, List, [], ◌∷◌, map, length, Option, Some, None, refl, sym, ap, ◌∙◌, arith, slice_get, take, is_some, subst, Ordering, Less, Equal, Greater}
+use Rattle.std.proofs.Common.{◌≡◌, ℕ, suc, ◌+◌, ◌-◌, ◌≤◌, cond, List, [], ◌∷◌, map, length, Option, Some, None, refl, sym, ap, ◌∙◌, arith, slice_get, take, is_some, subst, Ordering, Less, Equal, Greater}
 use Rattle.std.specs.List.{sum_by, count_by}
 use Rattle.std.specs.Ordering.{is_eq}
 use Rattle.std.specs.Cmp.Lexicographic.{nat_list_cmp_total}
@@ -9,10 +9,10 @@ use Rattle.std.proofs.lemmas.List.Sums.{sum_by-cons, sum_by_more, count_by-le-le
 use Rattle.std.proofs.lemmas.Option.{slice_get_within, get_or_from_slice_get}
 use Rattle.eco_net.specs.declared.rows.NetRow.{NetRow}
 use Rattle.eco_net.specs.declared.rows.CompRow.{CompRow}
-use Rattle.eco_net.specs.Netlist.{Name, name_cmp, Component, Role}
+use Rattle.eco_net.specs.Netlist.{Name, name_cmp, Component, Role, pins_of}
 use Rattle.eco_net.specs.Listing.{Listing, netlist, component, pins, joints, net_name, AreApart}
 use Rattle.eco_net.specs.Kept.{IsRow, IsListing}
-use Rattle.eco_net.specs.JoinedPins.{joined_pins}
+use Rattle.eco_net.specs.JoinedPins.{joined_pins, unconnected_pins}
 use Rattle.eco_net.proofs.Basics.{not_None, cmp_apart}
 use Rattle.eco_net.proofs.Named.{apart_rest, apart_first, joint_none}
 
@@ -113,3 +113,25 @@ joined_rows L is =
     ∙ sum_alike joined_count (λ x. len x.joined) (component L.nets) L.comps (λ k r e.
     let row = is.rows k r e in
     joint_count L.nets (pins r) r.joined row.kind.apart row.each_pin))
+
+-- ---- unconnected pins
+
+-- how many pins of a row are unconnected
+abbrev pub off_count : CompRow → ℕ
+off_count r = length r.joined - joined_count r
+
+pub off_small : (n : ℕ) (r : CompRow) → IsRow n r → off_count r ≤ 4294967295
+off_small n r row = omega (arith, row.each_pin, row.kind.few)
+
+pub off_more : (rows : List CompRow) (n : ℕ) (r : CompRow) → slice_get rows n ≡ Some r → sum_by off_count (take (n + 1) rows) ≡ sum_by off_count (take n rows) + off_count r
+off_more rows n r e = sum_by_more off_count rows n r (slice_get_within rows n r e) ∙ ap (λ x. sum_by off_count (take n rows) + off_count x) (get_or_from_slice_get rows n r r e)
+
+pub off_rows : (L : Listing) → IsListing L → sum_by off_count L.comps ≡ unconnected_pins (netlist L)
+off_rows L is =
+    let es : List (Name × Component) = map (λ r. (r.name, component L.nets r)) L.comps in
+    let a : AreApart (map (λ e. e.0) es) = subst AreApart (sym (names_are (component L.nets) L.comps)) is.comps in
+    sym (total_values (λ x. length (pins_of x.kind) - len x.joined) es a
+    ∙ ap (sum_by (λ x. length (pins_of x.kind) - len x.joined)) (values_are (component L.nets) L.comps)
+    ∙ sum_alike off_count (λ x. length (pins_of x.kind) - len x.joined) (component L.nets) L.comps (λ k r e.
+    let row = is.rows k r e in
+    omega (arith, joint_count L.nets (pins r) r.joined row.kind.apart row.each_pin, row.each_pin)))

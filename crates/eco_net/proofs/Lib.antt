@@ -43,6 +43,10 @@ pub mod DepthNames
 pub mod Removed
 pub mod JoinedNames
 pub mod Filling
+pub mod FoundComps
 pub mod Noted
+pub mod ByNames
+pub mod DriverCounts
+pub mod KeySets
 mod Examples
 mod Loops

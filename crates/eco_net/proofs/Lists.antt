@@ -7,7 +7,7 @@ use Rattle.std.specs.Cmp.{Equal-is}
 use Rattle.std.specs.Cmp.Lexicographic.{nat_list_cmp_total}
 use Rattle.std.specs.FinMap.{get, from_entries, find, get-from_entries}
 use Rattle.std.specs.FinSet.{from_list}
-use Rattle.eco_text.specs.declared.geometry.Dir.{Dir}
+use Rattle.eco_common.specs.declared.geometry.Dir.{Dir}
 use Rattle.eco_net.specs.Netlist.{Name, name_cmp, Kind, Netlist, Component, Top, Pin, TopPin, CompPin, Computes, Outside, pins_of, role_of, input_names, inputs_of, IsNet, IsWhole, IsPin, HasRows, Role}
 use Rattle.eco_net.specs.Drivers.{is_driving, driven, driven_at, driven_top, IsDriver, Computed, IsFree}
 use Rattle.eco_net.specs.CutKeys.{PinKey, key_cmp}

@@ -7,7 +7,7 @@ use Rattle.eco_net.proofs.Basics.{Has, contains_from_has, has_from_contains}
 use Rattle.eco_net.specs.Netlist.{Name, name_cmp, Gate, Netlist, CompPin}
 use Rattle.eco_net.specs.Drivers.{Computed}
 use Rattle.eco_net.specs.CutKeys.{CutBits}
-use Rattle.eco_net.specs.Valuation.{Valuation, IsValuation, look, read}
+use Rattle.eco_net.specs.Valuation.{Valuation, IsValuation, table_value, read}
 use Rattle.eco_net.specs.Walks.{ReadsNet, IsLoopFree, IsClosedWalk}
 use Rattle.eco_net.proofs.Lists.{Part, Lists, made, driver_by, computed_by}
 use Rattle.eco_net.proofs.Walks.{reported}
@@ -73,6 +73,6 @@ own_computed = computed_by own_lists (codes "y") (codes "i1") (codes "Y") (inver
 no_valuation : (cut : CutBits) (v : Valuation) → IsValuation (made own_lists) cut v → ⊥
 no_valuation cut v is = go (read v (Some (codes "y"))) (ap (λ o. unwrap_or o false) (is.computed (codes "y") _ _ own_computed))
   where
-    go : (b : Bool) → b ≡ look not_table (b ∷ []) → ⊥
+    go : (b : Bool) → b ≡ table_value not_table (b ∷ []) → ⊥
     go true e = true≢false e
     go false e = true≢false (sym e)

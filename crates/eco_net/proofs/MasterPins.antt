@@ -7,7 +7,7 @@ use Rattle.std.proofs.lemmas.List.FromFn.{length-range_with_len}
 use Rattle.std.proofs.lemmas.List.{map-append, length-map}
 use Rattle.std.proofs.lemmas.Slice.Eq.{bytes_eq-Decides}
 use Rattle.std.proofs.lemmas.Bool.{eqb-true, leb-true}
-use Rattle.eco_text.specs.declared.geometry.Dir.{Dir}
+use Rattle.eco_common.specs.declared.geometry.Dir.{Dir}
 use Rattle.eco_func.specs.declared.output.OutputFn.{OutputFn}
 use Rattle.eco_func.specs.Tables.{at}
 use Rattle.eco_func.specs.Masters.{MasterTables, is_master, all_differ, pins as master_pins}

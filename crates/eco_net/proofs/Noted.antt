@@ -21,7 +21,7 @@ module _ (L : Listing) where
   pub noted_length : (ps : List PinRef) → length (each_driving L ps) ≡ length L.nets
   noted_length ps = length-map-range_with_len (driving_at L ps) 0 (length L.nets)
 
-  noted_at : (ps : List PinRef) (n : ℕ) (d : Driving) → n < length L.nets → get_or (each_driving L ps) n d ≡ driving_at L ps n
+  pub noted_at : (ps : List PinRef) (n : ℕ) (d : Driving) → n < length L.nets → get_or (each_driving L ps) n d ≡ driving_at L ps n
   noted_at ps n d h = get_or-map-range_with_len (driving_at L ps) 0 (length L.nets) n n d h (omega arith)
 
   pub none_noted : replicate (length L.nets) Undriven ≡ each_driving L []
@@ -41,7 +41,7 @@ module _ (L : Listing) where
     passed none = map_agree (driving_at L ps) (driving_at L (ps ++ p ∷ [])) (range_with_len 0 (length L.nets))
         (λ n i. ap driving_of (sym (driving_more n ps (p ∷ []) ∙ ap (λ qs. driving_on n ps ++ qs) (none n) ∙ append-nil (driving_on n ps))))
 
-    -- a pin on no net
+    -- an unconnected pin
     pub off_passed : net_at L p ≡ None → each_driving L ps ≡ each_driving L (ps ++ p ∷ [])
     off_passed e = passed (λ n. ap (λ o. filter (drives L) (cond (is_net o n) (p ∷ []) [])) e)
 

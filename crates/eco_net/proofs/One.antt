@@ -8,7 +8,7 @@ use Rattle.std.proofs.lemmas.Map.Lookups.{exact_bytes}
 use Rattle.eco_net.specs.Netlist.{Name, name_cmp, Netlist}
 use Rattle.eco_net.specs.Drivers.{Computed, IsFree}
 use Rattle.eco_net.specs.CutKeys.{CutKey, KeyOf, CutBits, IsChoice}
-use Rattle.eco_net.specs.Valuation.{Valuation, IsValuation, HasOneValuation, look, read}
+use Rattle.eco_net.specs.Valuation.{Valuation, IsValuation, HasOneValuation, table_value, read}
 use Rattle.eco_net.specs.Walks.{IsLoopFree}
 use Rattle.eco_net.proofs.Basics.{Has, contains_from_has, same_of_cmp, map_agree}
 use Rattle.eco_net.proofs.Decide.{Shape, supply_net, computed_net, free_net, no_net, shape}
@@ -27,7 +27,7 @@ module _ (N : Netlist) (bits : CutKey → Bool) (v w : Name → Bool) (a : Solve
   same_value : (n : Name) → Grounded N n → v n ≡ w n
   same_value n (grounded below) = agree_by n (shape N n) (λ table ins c.
       a.computed n table ins c
-      ∙ ap (look table) (reads_agree N bits v w ins (λ m h. agree_by m (shape N m) (λ t j d.
+      ∙ ap (table_value table) (reads_agree N bits v w ins (λ m h. agree_by m (shape N m) (λ t j d.
       same_value m (below m (record { from = (t, j, d); table = table; inputs = ins; to = c; reads = contains_from_has ins (Some m) h })))))
       ∙ sym (b.computed n table ins c))
 
@@ -51,7 +51,7 @@ valuation_solves : (N : Netlist) (cut : CutBits) (v : Valuation) → IsValuation
 valuation_solves N cut v a = record {
   supplied = λ n b e. ap (λ o. unwrap_or o false) (a.supplied n b e);
   free = λ n key f k. ap (λ o. unwrap_or o false) (a.free n key f k);
-  computed = λ n table ins c. ap (λ o. unwrap_or o false) (a.computed n table ins c) ∙ ap (look table) (read_at v (bit v) (λ m. refl) ins);
+  computed = λ n table ins c. ap (λ o. unwrap_or o false) (a.computed n table ins c) ∙ ap (table_value table) (read_at v (bit v) (λ m. refl) ins);
   none = λ n e. no_bit (get v n) (a.keys n ∙ ap is_some e);
 }
   where
@@ -98,7 +98,7 @@ solution_values N cut f choice s = record {
   free = λ n key g k. value_at N f n None g.0 ∙ ap Some (s.free n key g k) ∙ sym (bit_of_key N cut n key choice g k);
   computed = λ n table ins c.
       value_at N f n None c.unsupplied
-      ∙ ap Some (s.computed n table ins c ∙ ap (look table) (sym (read_at (map_of N f) f (λ a. go a (get N.nets a) refl) ins)));
+      ∙ ap Some (s.computed n table ins c ∙ ap (table_value table) (sym (read_at (map_of N f) f (λ a. go a (get N.nets a) refl) ins)));
 }
   where
     go : (a : Name) (o : Option (Option Bool)) → get N.nets a ≡ o → bit (map_of N f) a ≡ f a

@@ -2,14 +2,13 @@
 use Rattle.std.proofs.Common.{◌≡◌, ◌≢◌, ℕ, zero, suc, ◌<◌, true, false, cond, List, [], ◌∷◌, ◌++◌, map, length, Option, Some, None, refl, sym, ap, ◌∙◌, arith, slice_get, inl, inr, ⊎_elim, ◌⊎◌}
 use Rattle.std.specs.Option.{option_map, MatchOption}
 use Rattle.std.specs.Ordering.{eq_by_cmp}
-use Rattle.std.specs.List.{IsDistinct, AllByRecursion, AllZip}
-use Rattle.std.specs.Borrow.{Bor}
+use Rattle.std.specs.List.{IsDistinct, AllByRecursion}
 use Rattle.std.proofs.lemmas.Option.{slice_get-map}
 use Rattle.std.specs.Cmp.Lexicographic.{nat_list_cmp_total}
 use Rattle.std.specs.FinMap.{FinMap, get, insert, empty, from_entries, find, get-from_entries, get-empty}
 use Rattle.eco_net.specs.Netlist.{Name, name_cmp}
 use Rattle.eco_net.specs.declared.rows.CompRow.{CompRow}
-use Rattle.eco_net.specs.Listing.{AreApart, HasPin, pins, comp_of}
+use Rattle.eco_net.specs.Listing.{AreApart, HasPin, pins}
 use Rattle.eco_net.specs.Kept.{IsIndexOf}
 use Rattle.eco_net.proofs.Basics.{same_Some, not_None, same_name, cmp_itself, cmp_apart, get_same, get_other, find_first, find_rest}
 
@@ -100,15 +99,6 @@ module _ {R X : Type 0} (name : R → Name) (f : R → X) where
       go : (o : Option ℕ) → get places q ≡ o → MatchOption o (get (from_entries {R = name_cmp} (map entry rows)) q ≡ None) (λ i. slice_get (map name rows) i ≡ Some q)
       go None e = none e (get (from_entries {R = name_cmp} (map entry rows)) q) refl
       go (Some i) e = (index q i).1 e
-
-  -- the same of many names, for numbers of components
-  pub numbers_found : (rows : List R) (places : FinMap name_cmp ℕ) → IsIndexOf (map name rows) places → (qs : List (Bor Name)) → AllZip (λ q c. MatchOption c (get (from_entries {R = name_cmp} (map entry rows)) q.now ≡ None) (λ c. slice_get (map name rows) c.0 ≡ Some q.now)) qs (map (option_map comp_of) (map (λ q. get places q.now) qs))
-  numbers_found rows places index [] = tt
-  numbers_found rows places index (q ∷ qs) = (as_comp (get places q.now) (number_found rows places q.now index), numbers_found rows places index qs)
-    where
-      as_comp : (o : Option ℕ) → MatchOption o (get (from_entries {R = name_cmp} (map entry rows)) q.now ≡ None) (λ i. slice_get (map name rows) i ≡ Some q.now) → MatchOption (option_map comp_of o) (get (from_entries {R = name_cmp} (map entry rows)) q.now ≡ None) (λ c. slice_get (map name rows) c.0 ≡ Some q.now)
-      as_comp None h = h
-      as_comp (Some i) h = h
 
 -- ---- distinct names
 

@@ -7,6 +7,7 @@ use Rattle.std.specs.FinMap.{FinMap, insert, find, get-from_entries, get-retain_
 use Rattle.std.proofs.lemmas.List.{take_more, map_push, length-map, length-take-le}
 use Rattle.std.proofs.lemmas.Option.{slice_get_read}
 use Rattle.std.proofs.lemmas.Map.Lookups.{exact_bytes}
+use Rattle.eco_common.specs.declared.limits.TheConstants.{MAX_LISTED_COMPS}
 use Rattle.eco_net.specs.declared.rows.CompRow.{CompRow}
 use Rattle.eco_net.specs.Netlist.{Name, name_cmp}
 use Rattle.eco_net.specs.Listing.{Listing, netlist, component, AreApart}
@@ -68,7 +69,7 @@ comps_left L a b c is ms index new = record {
   reserved = is.reserved;
 }
 
-pub left_small : (L : Listing) → IsListing L → (ms : List Bool) → length (unmarked_rows ms L.comps) ≤ 1100000
+pub left_small : (L : Listing) → IsListing L → (ms : List Bool) → length (unmarked_rows ms L.comps) ≤ MAX_LISTED_COMPS
 left_small L is ms = omega (arith, left_few ms L.comps, is.few_comps)
 
 -- ---- the loop over the rows

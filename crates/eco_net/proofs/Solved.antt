@@ -6,7 +6,7 @@ use Rattle.eco_net.specs.Netlist.{Name, Netlist, role_of}
 use Rattle.eco_net.specs.Drivers.{Computed, IsComputed, IsFree}
 use Rattle.eco_net.specs.CutKeys.{KeyOf, CutKey, PinKey, NetKey}
 use Rattle.eco_net.specs.Walks.{IsLoopFree}
-use Rattle.eco_net.specs.Valuation.{look}
+use Rattle.eco_net.specs.Valuation.{table_value}
 use Rattle.eco_net.proofs.Basics.{Has, contains_from_has, same_Some, not_None, map_agree}
 use Rattle.eco_net.proofs.Decide.{Shape, supply_net, computed_net, free_net, no_net, shape, gate_is, same_table}
 use Rattle.eco_net.proofs.Grounded.{Grounded, grounded, all_grounded}
@@ -21,7 +21,7 @@ at v (Some n) = v n
 pub record Solves (N : Netlist) (bits : CutKey → Bool) (v : Name → Bool) : Type 0 where
   pub supplied : (n : Name) (b : Bool) → get N.nets n ≡ Some (Some b) → v n ≡ b
   pub free : (n : Name) (key : CutKey) → IsFree N n → KeyOf N n key → v n ≡ bits key
-  pub computed : (n : Name) (table : List Bool) (inputs : List (Option Name)) → Computed N n table inputs → v n ≡ look table (map (at v) inputs)
+  pub computed : (n : Name) (table : List Bool) (inputs : List (Option Name)) → Computed N n table inputs → v n ≡ table_value table (map (at v) inputs)
   pub none : (n : Name) → get N.nets n ≡ None → v n ≡ false
 
 -- ---- a computed net has one table and one list of inputs
@@ -45,7 +45,7 @@ one_key N n (NetKey m) (NetKey o) a b = ap NetKey (a.0 ∙ sym b.0)
 
 by_shape : {N : Netlist} {n : Name} → (CutKey → Bool) → (Name → Bool) → Shape N n → Bool
 by_shape bits v (supply_net b e) = b
-by_shape bits v (computed_net table inputs c) = look table (map (at v) inputs)
+by_shape bits v (computed_net table inputs c) = table_value table (map (at v) inputs)
 by_shape bits v (free_net key f k) = bits key
 by_shape bits v (no_net e) = false
 
@@ -93,7 +93,7 @@ module _ (N : Netlist) (bits : CutKey → Bool) where
   settled_by n (no_net e) h = (0, λ j i. refl)
   settled_by n (computed_net table ins c) h =
       let b = bound Settled settled_later ins (h table ins c) in
-      (b.0, λ j i. ap (look table) (reads_agree (eval j) (eval b.0) ins (λ a k. b.1 a k j i)))
+      (b.0, λ j i. ap (table_value table) (reads_agree (eval j) (eval b.0) ins (λ a k. b.1 a k j i)))
 
   settle : (n : Name) (k : ℕ) → SettledBy (shape N n) k → Settled n (suc k)
   unfolding eval
@@ -136,7 +136,7 @@ module _ (N : Netlist) (bits : CutKey → Bool) where
         let P : Name → ℕ → Type 0 = λ a j. (enough a).0 ≤ j in
         let b = bound P (λ a j l h i. le_trans i h) ins (λ a i. ((enough a).0, le_refl _)) in
         let j = max k b.0 in
-        (j, le-max_left k b.0, ap (look table) (reads_agree (eval j) value ins (λ a i. at_large a j (le_trans (b.1 a i) (le-max_right k b.0)))))
+        (j, le-max_left k b.0, ap (table_value table) (reads_agree (eval j) value ins (λ a i. at_large a j (le_trans (b.1 a i) (le-max_right k b.0)))))
 
     fixed : (n : Name) → value n ≡ by_shape bits value (shape N n)
     unfolding eval
@@ -159,12 +159,12 @@ module _ (N : Netlist) (bits : CutKey → Bool) where
     by_key n key (free_net l g i) f h = ap bits (one_key N n l key i h)
     by_key n key (no_net e) f h = absurd (not_None (sym f.0 ∙ e))
 
-    by_table : (n : Name) (table : List Bool) (ins : List (Option Name)) (s : Shape N n) → Computed N n table ins → by_shape bits value s ≡ look table (map (at value) ins)
+    by_table : (n : Name) (table : List Bool) (ins : List (Option Name)) (s : Shape N n) → Computed N n table ins → by_shape bits value s ≡ table_value table (map (at value) ins)
     unfolding by_shape
     by_table n table ins (supply_net d e) c = absurd (not_None (sym (same_Some (sym c.unsupplied ∙ e))))
     by_table n table ins (computed_net t i d) c =
         let e = one_table N n t table i ins d c in
-        ap₂ (λ x y. look x (map (at value) y)) e.0 e.1
+        ap₂ (λ x y. table_value x (map (at value) y)) e.0 e.1
     by_table n table ins (free_net key f h) c = absurd (f.1 (table, ins, c))
     by_table n table ins (no_net e) c = absurd (not_None (sym c.unsupplied ∙ e))
 

@@ -13,7 +13,7 @@ use Rattle.eco_net.specs.declared.cut.CutKey.{CutKey as KeyNumber}
 use Rattle.eco_net.specs.Netlist.{Name, Netlist}
 use Rattle.eco_net.specs.Drivers.{Computed, IsComputed, IsFree}
 use Rattle.eco_net.specs.CutKeys.{CutKey, PinKey, NetKey, KeyOf, key_cmp}
-use Rattle.eco_net.specs.Valuation.{IsValuation, look, read}
+use Rattle.eco_net.specs.Valuation.{IsValuation, table_value, read}
 use Rattle.eco_net.specs.Listing.{Listing, netlist, net_names}
 use Rattle.eco_net.specs.Kept.{IsListing}
 use Rattle.eco_net.specs.Gates.{GatePin, computed_by, inputs_in, inputs_at, input_count}
@@ -220,7 +220,7 @@ module _ (L : Listing) (is : IsListing L) where
               ∙ ap (λ s. Some (start_by s (Some x) (get_or bits (keys_before L w.0) false))) w.4
               ∙ sym (ap (get (cut_bits L bits)) (sym same) ∙ key_bit bits l w.0 x h e)
 
-      computed_bit : (q : Name) (t : List Bool) (ins : List (Option Name)) → Computed (netlist L) q t ins → get (valuation L vs) q ≡ Some (look t (map (read (valuation L vs)) ins))
+      computed_bit : (q : Name) (t : List Bool) (ins : List (Option Name)) → Computed (netlist L) q t ins → get (valuation L vs) q ≡ Some (table_value t (map (read (valuation L vs)) ins))
       computed_bit q t ins m =
           let w = net_found L is q None m.unsupplied in
           let named : nm L is w.0 ≡ q = net_name_is L is w.0 w.1 w.2 ∙ w.3 in
@@ -234,7 +234,7 @@ module _ (L : Listing) (is : IsListing L) where
           ap (get (valuation L vs)) (sym w.3)
           ∙ value_at vs v.sized w.0 w.1 (computes L vs g.0) w.2 (v.computed w.0 g.0 g.1)
           ∙ ap (λ o. Some (by_role o (map (bit_of vs) (inputs_at L g.0.0.0)))) c.2
-          ∙ sym (ap₂ (λ x y. Some (look x (map (read (valuation L vs)) y))) same.0 same.1 ∙ ap (λ xs. Some (look c.0 xs)) reads)
+          ∙ sym (ap₂ (λ x y. Some (table_value x (map (read (valuation L vs)) y))) same.0 same.1 ∙ ap (λ xs. Some (table_value c.0 xs)) reads)
         where
           map_map : {A B C : Type 0} (f : A → B) (g : B → C) (xs : List A) → map (λ x. g (f x)) xs ≡ map g (map f xs)
           map_map f g [] = refl

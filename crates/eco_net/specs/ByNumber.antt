@@ -4,11 +4,12 @@ use Rattle.std.specs.List.{filter, range_with_len}
 use Rattle.std.specs.Option.{option_map, option_and_then}
 use Rattle.eco_net.specs.declared.rows.CompRow.{CompRow}
 use Rattle.eco_net.specs.declared.rows.TopRow.{TopRow}
+use Rattle.eco_net.specs.declared.ids.FoundComp.{FoundComp}
 use Rattle.eco_net.specs.declared.ids.PinRef.{PinRef}
 use Rattle.eco_net.specs.declared.ids.PinRef.TheVariants.{Top, Pin}
 use Rattle.eco_net.specs.Netlist.{Role}
 use Rattle.eco_net.specs.Drivers.{is_driving, drives_inward}
-use Rattle.eco_net.specs.Listing.{Listing, pins}
+use Rattle.eco_net.specs.Listing.{Listing, pins, comp_of}
 
 abbrev pub joint_at : Option CompRow → ℕ → Option ℕ
 joint_at None k = None
@@ -63,6 +64,10 @@ pins_at (Some r) = length (pins r)
 abbrev pub pin_count : Listing → ℕ → ℕ
 pin_count L c = pins_at (slice_get L.comps c)
 
+-- a component of a number, with how many pins it has
+abbrev pub found_of : Listing → ℕ → FoundComp
+found_of L c = record { id = comp_of c; pins = pin_count L c }
+
 abbrev pub all_pins : Listing → List PinRef
 all_pins L = tops_to (length L.tops) ++ comp_pins 0 L.comps
 
@@ -82,6 +87,3 @@ sole (x ∷ y ∷ xs) = None
 
 abbrev pub driver_at : Listing → ℕ → Option PinRef
 driver_at L n = sole (filter (drives L) (pins_on L n))
-
-abbrev pub drivers : Listing → List (Option PinRef)
-drivers L = map (driver_at L) (range_with_len 0 (length L.nets))

@@ -2,8 +2,8 @@
 use Rattle.std.specs.Prelude.{Bool, Option, Some, None}
 use Rattle.std.specs.FinMap.{FinMap, get, insert, remove, empty}
 use Rattle.std.specs.FinSet as set
-use Rattle.eco_text.specs.declared.geometry.Dir.{Dir}
-use Rattle.eco_text.specs.declared.geometry.Point.{Point}
+use Rattle.eco_common.specs.declared.geometry.Dir.{Dir}
+use Rattle.eco_common.specs.declared.geometry.Point.{Point}
 use Rattle.eco_net.specs.Netlist.{Name, name_cmp, Netlist, Component, Kind, Pin, TopPin, CompPin}
 
 abbrev pub empty_netlist : Netlist
@@ -13,7 +13,7 @@ empty_netlist = record { nets = empty; comps = empty; tops = empty; ties = set.e
 abbrev pub with_net : Netlist → Name → Option Bool → Netlist
 with_net N name supply = record N { nets = insert N.nets name supply }
 
--- with a component that has its pins on no net
+-- with a component whose pins are unconnected
 abbrev pub with_comp : Netlist → Name → Kind → Option Point → Netlist
 with_comp N name kind place = record N { comps = insert N.comps name (record { kind = kind; place = place; joined = empty }) }
 
@@ -40,7 +40,7 @@ abbrev pub with_pin_on : Netlist → Pin → Name → Netlist
 with_pin_on N (TopPin t) net = N
 with_pin_on N (CompPin c pin) net = record N { comps = on_net N.comps c pin net (get N.comps c) }
 
--- with a component's pin on no net
+-- with a component's pin unconnected
 abbrev pub with_pin_off : Netlist → Pin → Netlist
 with_pin_off N (TopPin t) = N
 with_pin_off N (CompPin c pin) = record N { comps = on_none N.comps c pin (get N.comps c) }

@@ -4,8 +4,8 @@ use Rattle.std.specs.declared.cmp.Ordering.{Ordering}
 use Rattle.std.specs.Ordering.{on}
 use Rattle.std.specs.Cmp.Lexicographic.{slice_cmp}
 use Rattle.std.specs.FinMap.{FinMap, get, contains_key}
-use Rattle.eco_text.specs.declared.geometry.Dir.{Dir}
-use Rattle.eco_text.specs.declared.geometry.Dir.TheVariants.{Input, Output, Inout}
+use Rattle.eco_common.specs.declared.geometry.Dir.{Dir}
+use Rattle.eco_common.specs.declared.geometry.Dir.TheVariants.{Input, Output, Inout}
 use Rattle.eco_net.specs.Netlist.{Name, name_cmp, Netlist, Component, Top, Pin, TopPin, CompPin, Role, Reads, Computes, Outside, role_of}
 use Rattle.eco_net.specs.Drivers.{IsDriver, IsFree}
 
@@ -48,7 +48,7 @@ KeyOf N n (NetKey m) = (m ≡ n) × ((p : Pin) → IsDriver N n p → is_source_
 abbrev pub IsCutKey : Netlist → CutKey → Type 0
 IsCutKey N key = (n : Name) × IsFree N n × KeyOf N n key
 
--- keys are told apart by names
+-- keys are distinguished by names
 abbrev pub key_names : CutKey → List Name
 key_names (PinKey (TopPin t)) = [] ∷ t ∷ []
 key_names (PinKey (CompPin c p)) = [] ∷ c ∷ p ∷ []

@@ -1,4 +1,4 @@
--- How deep a netlist's gates stand one behind another.
+-- The depth of a netlist's gates: how many stand one after another.
 use Rattle.std.specs.Prelude.{◌≡◌, ℕ, zero, suc, ◌<◌, Bool, List, Option, Some, ◌⊎◌}
 use Rattle.std.specs.List.{Contains}
 use Rattle.std.specs.FinMap.{get}

@@ -1,9 +1,10 @@
 -- Which pins drive a net, and which nets are computed or free.
-use Rattle.std.specs.Prelude.{◌≡◌, Bool, true, false, cond, List, Option, Some, None}
+use Rattle.std.specs.Prelude.{◌≡◌, ◌↔◌, ℕ, Bool, true, false, cond, List, length, Option, Some, None, slice_get}
+use Rattle.std.specs.List.{Contains}
 use Rattle.std.specs.Option.{option_map}
 use Rattle.std.specs.FinMap.{get}
-use Rattle.eco_text.specs.declared.geometry.Dir.{Dir}
-use Rattle.eco_text.specs.declared.geometry.Dir.TheVariants.{Input, Output, Inout}
+use Rattle.eco_common.specs.declared.geometry.Dir.{Dir}
+use Rattle.eco_common.specs.declared.geometry.Dir.TheVariants.{Input, Output, Inout}
 use Rattle.eco_net.specs.Netlist.{Name, Netlist, Component, Top, Pin, TopPin, CompPin, Role, Reads, Computes, Outside, role_of, inputs_of}
 
 -- a gate's outputs, and OUTPUT and INOUT pins of a box
@@ -44,6 +45,13 @@ driven N (CompPin c p) = driven_at (get N.comps c) p
 pub record IsDriver (N : Netlist) (n : Name) (p : Pin) : Type 0 where
   pub drives : driven N p ≡ Some n
   pub only : (q : Pin) → driven N q ≡ Some n → q ≡ p
+
+-- so many pins drive n: each of them stands once in a list of so many
+pub record HasDrivers (N : Netlist) (n : Name) (count : ℕ) : Type 0 where
+  pub pins : List Pin
+  pub once : (i j : ℕ) (p : Pin) → slice_get pins i ≡ Some p → slice_get pins j ≡ Some p → i ≡ j
+  pub each : (p : Pin) → Contains pins p ↔ (driven N p ≡ Some n)
+  pub counted : length pins ≡ count
 
 abbrev pub joined_at : Option Component → Name → Option Name
 joined_at None p = None

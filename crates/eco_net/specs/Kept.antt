@@ -1,12 +1,14 @@
 -- What the type of a listing keeps.
-use Rattle.std.specs.Prelude.{◌≡◌, ℕ, ◌<◌, ◌≤◌, ◌^◌, ◌↔◌, List, map, length, Option, Some, slice_get, is_some}
+use Rattle.std.specs.Prelude.{◌≡◌, ℕ, ◌<◌, ◌≤◌, ◌^◌, ◌↔◌, List, map, length, Some, slice_get, is_some}
 use Rattle.std.specs.List.{list_any}
 use Rattle.std.specs.Ordering.{eq_by_cmp}
 use Rattle.std.specs.FinMap.{FinMap, get}
+use Rattle.eco_common.specs.declared.limits.TheConstants.{MAX_LISTED_NETS, MAX_LISTED_COMPS, MAX_TOP_PINS}
 use Rattle.eco_net.specs.declared.rows.CompRow.{CompRow}
 use Rattle.eco_net.specs.declared.rows.TopRow.{TopRow}
-use Rattle.eco_net.specs.declared.ids.PinRef.{PinRef}
-use Rattle.eco_net.specs.ByNumber.{by_net, all_pins, drivers}
+use Rattle.eco_net.specs.declared.drivers.Driving.{Driving}
+use Rattle.eco_net.specs.ByNumber.{all_pins}
+use Rattle.eco_net.specs.Driving.{each_driving}
 use Rattle.eco_net.specs.Netlist.{Name, name_cmp, Kind, pins_of, HasRows}
 use Rattle.eco_net.specs.Listing.{Listing, AreApart, kind_of, pins}
 
@@ -29,9 +31,9 @@ pub record IsListing (L : Listing) : Type 0 where
   pub tops : AreApart (map (λ r. r.name) L.tops)
   pub rows : (c : ℕ) (r : CompRow) → slice_get L.comps c ≡ Some r → IsRow (length L.nets) r
   pub ends : (t : ℕ) (r : TopRow) → slice_get L.tops t ≡ Some r → r.net < length L.nets
-  pub few_nets : length L.nets ≤ 9000000
-  pub few_comps : length L.comps ≤ 1100000
-  pub few_tops : length L.tops ≤ 1000000
+  pub few_nets : length L.nets ≤ MAX_LISTED_NETS
+  pub few_comps : length L.comps ≤ MAX_LISTED_COMPS
+  pub few_tops : length L.tops ≤ MAX_TOP_PINS
 
 -- the place of each name
 abbrev pub IsIndexOf : List Name → FinMap name_cmp ℕ → Type 0
@@ -44,8 +46,7 @@ pub record IsIndexed (L : Listing) (of_nets of_comps of_reserved : FinMap name_c
   pub comps : IsIndexOf (map (λ r. r.name) L.comps) of_comps
   pub reserved : (q : Name) → is_some (get of_reserved q) ≡ list_any (eq_by_cmp name_cmp q) L.reserved
 
--- what a finished netlist keeps: the pins of each net in order, and its driver
-pub record IsFinished (L : Listing) (on : List (List PinRef)) (found : List (Option PinRef)) : Type 0 where
+-- what a finished netlist keeps: which driving pins each net has
+pub record IsFinished (L : Listing) (driving : List Driving) : Type 0 where
   pub listing : IsListing L
-  pub on_net : on ≡ by_net L (all_pins L)
-  pub driver : found ≡ drivers L
+  pub driving_is : driving ≡ each_driving L (all_pins L)

@@ -1,8 +1,8 @@
 -- The cut keys of a listing, by number and by name.
 use Rattle.std.specs.Prelude.{◌≡◌, ℕ, List, [], ◌∷◌, ◌⊎◌, length, Bool, Option, Some, None, slice_get}
 use Rattle.std.specs.List.{filter_map, range_with_len}
-use Rattle.eco_text.specs.declared.geometry.Dir.{Dir}
-use Rattle.eco_text.specs.declared.geometry.Dir.TheVariants.{Input, Output, Inout}
+use Rattle.eco_common.specs.declared.geometry.Dir.{Dir}
+use Rattle.eco_common.specs.declared.geometry.Dir.TheVariants.{Input, Output, Inout}
 use Rattle.eco_net.specs.declared.rows.NetRow.{NetRow}
 use Rattle.eco_net.specs.declared.rows.TopRow.{TopRow}
 use Rattle.eco_net.specs.declared.ids.CompId.{CompId}

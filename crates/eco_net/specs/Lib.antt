@@ -28,3 +28,5 @@ pub mod Removal
 pub mod JoinedPins
 pub mod PinLists
 pub mod Driving
+pub mod Joints
+pub mod Bases

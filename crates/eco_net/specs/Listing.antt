@@ -14,9 +14,10 @@ use Rattle.eco_net.specs.declared.rows.NetRow.{NetRow}
 use Rattle.eco_net.specs.declared.rows.CompRow.{CompRow}
 use Rattle.eco_net.specs.declared.rows.TopRow.{TopRow}
 use Rattle.eco_net.specs.declared.ids.CompId.{CompId}
+use Rattle.eco_net.specs.declared.ids.FoundComp.{FoundComp}
 use Rattle.eco_net.specs.declared.ids.PinRef.{PinRef}
 use Rattle.eco_net.specs.declared.ids.PinRef.TheVariants.{Top as TopNumber, Pin as PinNumber}
-use Rattle.eco_net.specs.Netlist.{Name, name_cmp, Kind, Gate, Boxed, Netlist, Component, Top, Pin, TopPin, CompPin, Role, Reads, Computes, Outside, pins_of}
+use Rattle.eco_net.specs.Netlist.{Name, name_cmp, Kind, Gate, Boxed, Netlist, Component, Top, Pin, TopPin, CompPin, Role, Reads, Computes, Outside, pins_of, IsPin}
 
 pub record Listing : Type 0 where
   pub nets : List NetRow
@@ -47,6 +48,10 @@ pins r = pins_of (kind_of r.kind)
 -- the name of the net of a number
 abbrev pub net_name : List NetRow → ℕ → Name
 net_name nets i = unwrap_or (option_map (λ r. r.name) (slice_get nets i)) []
+
+-- the name of the component of a number
+abbrev pub comp_name : List CompRow → ℕ → Name
+comp_name comps c = unwrap_or (option_map (λ r. r.name) (slice_get comps c)) []
 
 -- the net of each pin that is on one
 abbrev pub joints : List NetRow → List (Name × Role) → List (Option ℕ) → List (Name × Name)
@@ -138,9 +143,13 @@ with_tie (r ∷ rows) (suc n) = r ∷ with_tie rows n
 abbrev pub comp_of : ℕ → CompId
 comp_of c = record { 0 = c }
 
--- the component of a name: its number, or none
-abbrev pub FindsComp : Listing → Name → Option CompId → Type 0
-FindsComp L name found = MatchOption found (get (netlist L).comps name ≡ None) (λ c. slice_get (comp_names L) c.0 ≡ Some name)
+-- a component that was looked up is there, and has so many pins
+abbrev pub IsFound : Listing → FoundComp → Type 0
+IsFound L f = option_map (λ r. length (pins r)) (slice_get L.comps f.id.0) ≡ Some f.pins
+
+-- the component of a name, or none
+abbrev pub FindsComp : Listing → Name → Option FoundComp → Type 0
+FindsComp L name found = MatchOption found (get (netlist L).comps name ≡ None) (λ f. (slice_get (comp_names L) f.id.0 ≡ Some name) × IsFound L f)
 
 -- where a name stands in a list
 abbrev pub FindsName : List Name → Name → Option ℕ → Type 0
@@ -151,3 +160,8 @@ FindsName names q (Some k) = slice_get names k ≡ Some q
 abbrev pub FindsPin : Option CompRow → Name → Option ℕ → Type 0
 FindsPin None q o = ⊥
 FindsPin (Some r) q o = FindsName (map (λ p. p.0) (pins r)) q o
+
+-- the component's pin of a name by number, or none where the component has no such pin
+abbrev pub FindsPinNamed : Listing → CompId → Name → Option ℕ → Type 0
+FindsPinNamed L c q None = (x : Component) → get (netlist L).comps (comp_name L.comps c.0) ≡ Some x → IsPin x q → ⊥
+FindsPinNamed L c q (Some k) = IsKnownPin L (PinNumber c k) × (pin_named L (PinNumber c k) ≡ CompPin (comp_name L.comps c.0) q)

@@ -6,8 +6,8 @@ use Rattle.std.specs.Ordering.{nat_cmp, eq_by_cmp}
 use Rattle.std.specs.Cmp.Lexicographic.{slice_cmp}
 use Rattle.std.specs.FinMap.{FinMap, get, find}
 use Rattle.std.specs.FinSet.{FinSet}
-use Rattle.eco_text.specs.declared.geometry.Dir.{Dir}
-use Rattle.eco_text.specs.declared.geometry.Point.{Point}
+use Rattle.eco_common.specs.declared.geometry.Dir.{Dir}
+use Rattle.eco_common.specs.declared.geometry.Point.{Point}
 
 -- the bytes of a name, in the order of bytes
 abbrev pub Name : Type 0

@@ -2,10 +2,10 @@
 -- free nets.
 use Rattle.std.specs.Prelude.{◌≢◌, Bool, false, List, map, Option, Some, None}
 use Rattle.std.specs.FinMap.{get}
-use Rattle.eco_text.specs.declared.geometry.Dir.TheVariants.{Input, Output, Inout}
+use Rattle.eco_common.specs.declared.geometry.Dir.TheVariants.{Input, Output, Inout}
 use Rattle.eco_net.specs.Netlist.{Name, Netlist, Component, Top, Pin, TopPin, CompPin, Role, Reads, Computes, Outside, role_of, inputs_of}
 use Rattle.eco_net.specs.Drivers.{IsFree}
-use Rattle.eco_net.specs.Valuation.{Valuation, look, read}
+use Rattle.eco_net.specs.Valuation.{Valuation, table_value, read}
 
 -- a component's pin by its role and its net
 abbrev pub ObservedRole : Netlist → Option Role → Option Name → Type 0
@@ -31,7 +31,7 @@ IsObservable N (TopPin t) = ObservedTop (get N.tops t)
 IsObservable N (CompPin c p) = ObservedAt N (get N.comps c) p
 
 abbrev pub value_by_role : Valuation → Option Role → Option Name → List (Option Name) → Bool
-value_by_role v (Some (Computes table)) n inputs = look table (map (read v) inputs)
+value_by_role v (Some (Computes table)) n inputs = table_value table (map (read v) inputs)
 value_by_role v (Some Reads) n inputs = read v n
 value_by_role v (Some (Outside d)) n inputs = read v n
 value_by_role v None n inputs = false
@@ -44,7 +44,7 @@ abbrev pub value_at : Valuation → Option Component → Name → Bool
 value_at v None p = false
 value_at v (Some x) p = value_by_role v (role_of x p) (get x.joined p) (inputs_of x)
 
--- An observable's value: that of its net, and 0 on no net; of a gate output on a free net, what the gate computes.
+-- An observable's value: that of its net, and 0 where it is unconnected; of a gate output on a free net, what the gate computes.
 abbrev pub observed : Netlist → Valuation → Pin → Bool
 observed N v (TopPin t) = value_top v (get N.tops t)
 observed N v (CompPin c p) = value_at v (get N.comps c) p

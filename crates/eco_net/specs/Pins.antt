@@ -13,6 +13,9 @@ abbrev pub DriverIs : Listing → Name → Option PinRef → Type 0
 DriverIs L n None = (q : Pin) → IsDriver (netlist L) n q → ⊥
 DriverIs L n (Some p) = IsKnownPin L p × IsDriver (netlist L) n (pin_named L p)
 
+abbrev pub AreKnown : Listing → List PinRef → Type 0
+AreKnown L ps = (p : PinRef) → Contains ps p → IsKnownPin L p
+
 -- the pins with a property, each once and in this order
 pub record ArePins (L : Listing) (order : PinRef → PinRef → Ordering) (P : Pin → Type 0) (ps : List PinRef) : Type 0 where
   pub sorted : IsStrictlySortedBy order ps

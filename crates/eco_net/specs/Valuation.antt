@@ -1,25 +1,21 @@
 -- What a netlist computes.
-use Rattle.std.specs.Prelude.{◌≡◌, ℕ, ◌+◌, ◌*◌, Bool, false, cond, List, [], ◌∷◌, map, slice_index_or, Option, Some, None}
+use Rattle.std.specs.Prelude.{◌≡◌, Bool, false, List, map, slice_index_or, Option, Some, None}
 use Rattle.std.specs.Option.{unwrap_or}
 use Rattle.std.specs.FinMap.{FinMap, get, contains_key}
+use Rattle.eco_func.specs.Tables.{row}
 use Rattle.eco_net.specs.Netlist.{Name, name_cmp, Netlist}
 use Rattle.eco_net.specs.Drivers.{Computed, IsFree}
 use Rattle.eco_net.specs.CutKeys.{CutKey, KeyOf, CutBits, IsChoice}
 
--- the row of a list of bits: the sum of 2^i over the places i that hold 1
-abbrev pub row : List Bool → ℕ
-row [] = 0
-row (b ∷ bs) = cond b 1 0 + 2 * row bs
-
--- a table at the row of these bits
-abbrev pub look : List Bool → List Bool → Bool
-look table bits = slice_index_or table (row bits) false
+-- what a table, row 0 first, has at the row of these bits
+abbrev pub table_value : List Bool → List Bool → Bool
+table_value table bits = slice_index_or table (row bits) false
 
 -- a bit for each net
 abbrev pub Valuation : Type 0
 Valuation = FinMap name_cmp Bool
 
--- what a pin reads: its net's value, and 0 on no net
+-- what a pin reads: its net's value, and 0 where it is unconnected
 abbrev pub read : Valuation → Option Name → Bool
 read v None = false
 read v (Some n) = unwrap_or (get v n) false
@@ -29,7 +25,7 @@ pub record IsValuation (N : Netlist) (cut : CutBits) (v : Valuation) : Type 0 wh
   pub keys : (n : Name) → contains_key v n ≡ contains_key N.nets n
   pub supplied : (n : Name) (b : Bool) → get N.nets n ≡ Some (Some b) → get v n ≡ Some b
   pub free : (n : Name) (key : CutKey) → IsFree N n → KeyOf N n key → get v n ≡ get cut key
-  pub computed : (n : Name) (table : List Bool) (inputs : List (Option Name)) → Computed N n table inputs → get v n ≡ Some (look table (map (read v) inputs))
+  pub computed : (n : Name) (table : List Bool) (inputs : List (Option Name)) → Computed N n table inputs → get v n ≡ Some (table_value table (map (read v) inputs))
 
 -- exactly one valuation for each choice of cut bits
 abbrev pub HasOneValuation : Netlist → Type 0

@@ -6,7 +6,7 @@ use Rattle.eco_net.specs.declared.rows.NetRow.{NetRow}
 use Rattle.eco_net.specs.declared.cut.CutKey.{CutKey as KeyNumber}
 use Rattle.eco_net.specs.Netlist.{Role, Reads as Read, Computes, Outside}
 use Rattle.eco_net.specs.CutKeys.{CutBits}
-use Rattle.eco_net.specs.Valuation.{Valuation, look}
+use Rattle.eco_net.specs.Valuation.{Valuation, table_value}
 use Rattle.eco_net.specs.Listing.{Listing, net_names}
 use Rattle.eco_net.specs.ByNumber.{role_at}
 use Rattle.eco_net.specs.Gates.{GatePin, computed_by, inputs_at}
@@ -48,7 +48,7 @@ bit_of vs (Some n) = slice_index_or vs n false
 abbrev pub by_role : Option Role → List Bool → Bool
 by_role None bits = false
 by_role (Some Read) bits = false
-by_role (Some (Computes t)) bits = look t bits
+by_role (Some (Computes t)) bits = table_value t bits
 by_role (Some (Outside d)) bits = false
 
 -- what a gate's output computes from these values

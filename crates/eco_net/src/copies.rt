@@ -6,7 +6,7 @@ ghost use Rattle.eco_net.specs.Listing.{Listing};
 use crate::maker::NetlistMaker;
 use crate::netlist::Netlist;
 use crate::rows::{CompRow, NetRow, TopRow};
-use eco_func::{Memory, Name};
+use eco_common::{Memory, Name};
 use std::alloc::Global;
 
 /// The same nets.
@@ -76,11 +76,7 @@ impl Netlist {
     pub fn into_maker(self) -> NetlistMaker
         ensures { result ≡ self }
     {
-        let Netlist {
-            listed,
-            on_net: _,
-            drivers: _,
-        } = self;
+        let Netlist { listed, driving: _ } = self;
         listed
     }
 }

@@ -1,14 +1,16 @@
 //! Where values come from outside: the cut keys of free nets.
 
-ghost use Rattle.std.specs.Prelude.{◌≡◌, ◌<◌, length, map, IfOk};
+ghost use Rattle.std.specs.Prelude.{◌≡◌, ◌↔◌, ◌<◌, length, map, IfOk};
+ghost use Rattle.std.specs.List.{Contains, IsDistinct};
+ghost use Rattle.std.specs.Ordering.{eq_by_cmp};
+ghost use Rattle.eco_net.specs.CutKeys.{CutKey as NamedKey, IsCutKey, key_cmp};
 ghost use Rattle.eco_net.specs.Listing.{Listing, netlist, net_names};
 ghost use Rattle.eco_net.specs.KeysOf.{key_at, keys_of, key_named, KeysAlong};
 
 use crate::ids::{CompId, NetId, PinRef, TopId};
 use crate::kind::PinUse;
 use crate::netlist::Netlist;
-use eco_func::Memory;
-use eco_text::Dir;
+use eco_common::{Dir, Memory};
 use std::alloc::Global;
 use std::marker::Model;
 
@@ -73,9 +75,11 @@ impl Netlist {
         }
     }
 
-    /// The cut keys, in the order of their nets.
+    /// The cut keys of the free nets, each once, in the order of their nets.
     pub fn cut_keys(&self, alloc: Global) -> Result<Vec<CutKey>, Memory>
         ensures numbers { IfOk result (λ keys. keys.items ≡ keys_of self.now) }
+        ensures each { IfOk result (λ keys. (key : NamedKey) → IsCutKey (netlist self.now) key ↔ Contains (map (key_named self.now) keys.items) key) }
+        ensures once { IfOk result (λ keys. IsDistinct (eq_by_cmp key_cmp) (map (key_named self.now) keys.items)) }
         ensures along { IfOk result (λ keys. KeysAlong (netlist self.now) (net_names self.now) (map (key_named self.now) keys.items)) }
     {
         let nets = self.counts().nets;

@@ -1,4 +1,4 @@
-//! How deep gates stand one behind another.
+//! The depth of gates: how many stand one after another.
 
 ghost use Rattle.std.specs.Prelude.{◌≡◌, ◌<◌, ◌+◌, ◌^◌, suc, length, IfOk};
 ghost use Rattle.std.specs.Option.{IfSome};
@@ -10,10 +10,10 @@ ghost use Rattle.eco_net.specs.DepthsOf.{depth_at, gate_depth, AreDepths};
 
 use crate::kind::Kind;
 use crate::netlist::Netlist;
-use eco_func::Memory;
+use eco_common::Memory;
 use std::alloc::Global;
 
-/// The depth of a net that a gate reads, and 0 on no net.
+/// The depth of a net that a gate reads, and 0 where the pin is unconnected.
 fn depth_at(depths: &[u32], net: Option<u32>) -> u32
     requires { IfSome net (λ n. n < length depths.now) }
     ensures { result ≡ depth_at depths.now net }

@@ -1,19 +1,18 @@
-//! The driver of each net.
+//! Which driving pins each net has: none, one or several.
 
 ghost use Rattle.std.specs.Prelude.{◌≡◌, ◌<◌, ◌+◌, ◌++◌, [], ◌∷◌, List, length, IfOk};
 ghost use Rattle.eco_net.specs.declared.ids.PinRef.{PinRef};
-ghost use Rattle.eco_net.specs.ByNumber.{sole, drivers};
+ghost use Rattle.eco_net.specs.ByNumber.{sole, all_pins};
 ghost use Rattle.eco_net.specs.Driving.{driving_of, each_driving, pins_before};
 
 use crate::ids::{CompId, PinRef, TopId};
 use crate::maker::NetlistMaker;
-use eco_func::Memory;
-use eco_text::Dir;
+use eco_common::{Dir, Memory};
 use std::alloc::Global;
 
 /// How many driving pins of a net were met, and which one if it was one.
 #[derive(Clone, Copy, Debug, Drop)]
-enum Driving {
+pub enum Driving {
     None,
     One(PinRef),
     Several,
@@ -31,7 +30,7 @@ impl Driving {
     }
 
     /// The pin, if it was one.
-    fn sole(self) -> Option<PinRef>
+    pub(crate) fn sole(self) -> Option<PinRef>
         ensures { (pins : List PinRef) → self ≡ driving_of pins → result ≡ sole pins }
     {
         match self {
@@ -70,23 +69,15 @@ fn note_comp(listed: &NetlistMaker, comp: u32, driving: &mut [Driving])
     }
 }
 
-/// The one driving pin of each net. One walk over the rows in their order: to go to the row of each pin of each net
-/// would wait for memory at every pin.
-pub(crate) fn drivers_of(
-    alloc: Global,
-    listed: &NetlistMaker,
-) -> Result<Vec<Option<PinRef>>, Memory>
-    ensures { IfOk result (λ found. found.items ≡ drivers listed.now) }
+/// What is noted of each net. One walk over the rows in their order: to go to the row of each pin of each net would wait
+/// for memory at every pin.
+pub(crate) fn noted_of(alloc: Global, listed: &NetlistMaker) -> Result<Vec<Driving>, Memory>
+    ensures { IfOk result (λ driving. driving.items ≡ each_driving listed.now (all_pins listed.now)) }
 {
-    let nets = listed.net_count() as usize;
-    let mut driving = vec![in alloc; Driving::None; nets]?;
+    let mut driving = vec![in alloc; Driving::None; listed.net_count() as usize]?;
     note_tops(listed, &mut driving);
     for comp in 0..listed.comp_count() {
         note_comp(listed, comp, &mut driving);
     }
-    let mut found = Vec::with_capacity(alloc, nets)?;
-    for noted in &driving {
-        found.push(noted.sole())?;
-    }
-    Ok(found)
+    Ok(driving)
 }

@@ -17,7 +17,7 @@ use crate::ids::{CompId, NetId};
 use crate::kind::PinUse;
 use crate::levels::Levels;
 use crate::netlist::Netlist;
-use eco_func::Memory;
+use eco_common::Memory;
 use std::alloc::Global;
 use std::marker::Model;
 
@@ -48,7 +48,7 @@ impl Values {
 /// No gate has more inputs.
 const MOST_INPUTS: usize = 6;
 
-/// What a pin reads: its net's value, and 0 on no net.
+/// What a pin reads: its net's value, and 0 where it is unconnected.
 fn read(values: &[bool], net: Option<u32>) -> bool
     requires { IfSome net (λ n. n < length values.now) }
     ensures { result ≡ bit_of values.now net }
@@ -99,7 +99,7 @@ impl Netlist {
     }
 
     /// The one valuation at these cut bits. The levels are those of this netlist, and there is a bit for each of its
-    /// `cut_keys`, in their order. It fails only for want of memory.
+    /// `cut_keys`, in their order. It fails only where memory runs out.
     pub fn value_all(
         &self,
         alloc: Global,
@@ -114,7 +114,7 @@ impl Netlist {
         ensures each_net { IfOk result (λ vs. length vs ≡ length self.now.nets) }
         ensures named { IfOk result (λ vs. (n : ℕ) (b : Bool) → slice_get vs n ≡ Some b → get (valuation self.now vs) (net_name self.now.nets n) ≡ Some b) }
     {
-        let _counts = self.counts();
+        self.facts();
         let mut bits = self.start_values(alloc, &cut.bits)?;
         for net in &levels.order {
             if let Some((comp, pin)) = self.gate_of(*net) {

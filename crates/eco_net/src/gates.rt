@@ -22,8 +22,9 @@ impl Kind {
 
 impl Netlist {
     ghost use Rattle.std.specs.Prelude.{◌≡◌, ◌<◌, length, IfSome};
-    ghost use Rattle.eco_net.specs.Listing.{Listing, IsKnownPin};
+    ghost use Rattle.eco_net.specs.Listing.{Listing, net_name, IsKnownPin};
     ghost use Rattle.eco_net.specs.ByNumber.{driver_at};
+    ghost use Rattle.eco_net.specs.Pins.{DriverIs};
     ghost use Rattle.eco_net.specs.Gates.{computed_by};
 
     /// The one driving pin of a net.
@@ -31,8 +32,9 @@ impl Netlist {
         requires { net < length self.now.nets }
         ensures found { result ≡ driver_at self.now net }
         ensures known { IfSome result (IsKnownPin self.now) }
+        ensures named { DriverIs self.now (net_name self.now.nets net) result }
     {
-        self.drivers[net as usize]
+        self.driving[net as usize].sole()
     }
 
     /// The gate's output that computes a net, or none where it is no computed net.

@@ -8,6 +8,13 @@ pub struct NetId(pub u32);
 #[derive(Clone, Copy, Debug, Drop, PartialEq, Eq)]
 pub struct CompId(pub u32);
 
+/// A component that was looked up: its number and how many pins it has, by which its pins are found.
+#[derive(Clone, Copy, Debug, Drop, PartialEq, Eq)]
+pub struct FoundComp {
+    pub id: CompId,
+    pub pins: u32,
+}
+
 /// The number of a top pin.
 #[derive(Clone, Copy, Debug, Drop, PartialEq, Eq)]
 pub struct TopId(pub u32);

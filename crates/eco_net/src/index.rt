@@ -4,7 +4,7 @@ ghost use Rattle.std.specs.Prelude.{◌≡◌, map, IfOk};
 ghost use Rattle.eco_net.specs.Index.{short_of};
 
 use crate::short_name::ShortName;
-use eco_func::Memory;
+use eco_common::Memory;
 use std::alloc::Global;
 use std::collections::HashMap;
 use std::marker::Model;
@@ -66,7 +66,9 @@ impl NameIndex {
         })
     }
 
-    /// The place of a name, which is at hand in place if it is short.
+    /// The place of a name, which is at hand in place if it is short. Where it is a call of its own, fewer look-ups wait at
+    /// the same time.
+    #[inline(always)]
     fn find_as(&self, short: Option<ShortName>, name: &[u8]) -> Option<u32>
         requires { short ≡ short_of name.now }
         ensures { result ≡ map.get self.now name.now }

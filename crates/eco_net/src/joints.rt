@@ -1,6 +1,6 @@
 //! The nets of a component's pins.
 
-use eco_func::Memory;
+use eco_common::Memory;
 use smallvec::SmallVec;
 use std::alloc::Global;
 use std::marker::Model;
@@ -23,7 +23,7 @@ impl Joints {
     ghost use Rattle.std.specs.Prelude.{◌≡◌, ◌<◌, None, IfOk, length, replicate, slice_set, slice_get, is_some};
     ghost use Rattle.std.specs.List.{count_by};
 
-    /// So many pins on no net.
+    /// So many unconnected pins.
     pub(crate) fn none(alloc: Global, pins: usize) -> Result<Joints, Memory>
         ensures { IfOk result (λ j. j ≡ replicate pins None) }
     {

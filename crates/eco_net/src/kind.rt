@@ -5,8 +5,8 @@ ghost use Rattle.std.specs.List.{list_any};
 ghost use Rattle.std.specs.Option.{option_map};
 ghost use Rattle.std.specs.Str.{bytes_eq};
 
-use eco_func::{MasterFn, Memory, Name, OutputFn, Table};
-use eco_text::Dir;
+use eco_common::{Dir, Memory, Name};
+use eco_func::{MasterFn, OutputFn, Table};
 use std::marker::Model;
 use std::sync::ArcSlice;
 
@@ -165,17 +165,25 @@ impl Kind {
     ghost use Rattle.eco_net.specs.Netlist.{pins_of};
     ghost use Rattle.eco_net.specs.Listing.{kind_of, FindsName};
 
-    /// The number of the pin of a name.
-    pub(crate) fn find_pin(&self, name: &[u8]) -> Option<u32>
-        requires { length (pins_of (kind_of self.now)) < 2 ^ 32 }
+    /// The number of the pin of a name. How many pins there are is at hand.
+    pub(crate) fn find_among(&self, pins: u32, name: &[u8]) -> Option<u32>
+        requires { pins ≡ length (pins_of (kind_of self.now)) }
         ensures { FindsName (map (λ p. p.0) (pins_of (kind_of self.now))) name.now result }
     {
-        for pin in 0..self.pin_count() as u32 {
+        for pin in 0..pins {
             if self.pin_name(pin as usize) == name {
                 return Some(pin);
             }
         }
         None
+    }
+
+    /// The number of the pin of a name.
+    pub(crate) fn find_pin(&self, name: &[u8]) -> Option<u32>
+        requires { length (pins_of (kind_of self.now)) < 2 ^ 32 }
+        ensures { FindsName (map (λ p. p.0) (pins_of (kind_of self.now))) name.now result }
+    {
+        self.find_among(self.pin_count() as u32, name)
     }
 }
 

@@ -1,3 +1,5 @@
+//! The laws of netlists.
+
 ghost use Rattle.eco_net.specs.Laws.{EachChoice, EachNet, OneCutKey, OneDepth, OneValuation, RanksShow, WalkShows};
 
 /// A law: a loop-free netlist has exactly one valuation for each choice of cut bits.

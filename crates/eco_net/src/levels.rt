@@ -2,7 +2,7 @@
 
 use crate::netlist::Netlist;
 use crate::search::Stop;
-use eco_func::{Memory, Name};
+use eco_common::{Memory, Name};
 use std::alloc::Global;
 use std::fmt::{self, Display, Formatter, Write};
 use std::marker::Model;
@@ -81,7 +81,7 @@ pub enum LoopFault {
     /// first, which is the least by bytes.
     #[error("Loop nets={nets}")]
     Loop { nets: Names },
-    /// Want of memory.
+    /// Memory ran out.
     #[error("memory")]
     Memory,
 }
@@ -110,7 +110,7 @@ impl Netlist {
         ensures ok { IfOk result (λ l. IsLevels self.now l) }
         ensures stop { IfErr result (λ e. LoopIs (netlist self.now) e) }
     {
-        let _counts = self.counts();
+        self.facts();
         match self.order(alloc) {
             Ok(order) => {
                 let depth = self.depth(alloc, &order)?;

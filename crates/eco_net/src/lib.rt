@@ -18,6 +18,7 @@ mod laws;
 mod levels;
 mod listed;
 mod maker;
+mod net_pins;
 mod netlist;
 mod observables;
 mod pin_lists;
@@ -32,7 +33,7 @@ mod walk;
 
 pub use crate::cut::{CutKey, CutValues};
 pub use crate::evaluation::Values;
-pub use crate::ids::{CompId, Counts, NetId, PinRef, TopId};
+pub use crate::ids::{CompId, Counts, FoundComp, NetId, PinRef, TopId};
 pub use crate::kind::{BoxPin, BoxPins, Kind};
 pub use crate::laws::{
     closed_walk_shows, each_choice, each_net, one_cut_key, one_depth, one_valuation, ranks_show,
@@ -40,4 +41,5 @@ pub use crate::laws::{
 pub use crate::levels::{Levels, LoopFault, Names};
 pub use crate::maker::NetlistMaker;
 pub use crate::netlist::{Netlist, PinName};
+pub use crate::pin_lists::PinLists;
 pub use crate::rows::{CompRow, NetRow, TopRow};

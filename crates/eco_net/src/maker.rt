@@ -5,8 +5,7 @@ use crate::index::NameIndex;
 use crate::joints::Joints;
 use crate::kind::Kind;
 use crate::rows::{CompRow, NetRow, TopRow};
-use eco_func::{Memory, Name};
-use eco_text::{Dir, Point};
+use eco_common::{Dir, MAX_LISTED_COMPS, MAX_LISTED_NETS, MAX_TOP_PINS, Memory, Name, Point};
 use std::alloc::Global;
 use std::marker::Model;
 
@@ -36,7 +35,7 @@ impl Model for NetlistMaker {
 }
 
 impl NetlistMaker {
-    ghost use Rattle.std.specs.Prelude.{◌≡◌, ◌<◌, [], ◌∷◌, ◌++◌, None, false, length, replicate, IfOk, OnOk, OnErr};
+    ghost use Rattle.std.specs.Prelude.{◌≡◌, ◌<◌, [], ◌∷◌, ◌++◌, None, false, length, replicate, IsOk, IfOk, OnOk, OnErr};
     ghost use Rattle.std.specs.FinMap.{get};
     ghost use Rattle.eco_net.specs.Listing.{Listing, netlist, kind_of, HasOwnPins, IsKnownPin, net_name, pin_named, with_joint, without_joint, with_tie};
     ghost use Rattle.eco_net.specs.Changes.{empty_netlist, with_net, with_comp, with_top, with_tie_net, with_reserved, with_pin_on, with_pin_off};
@@ -83,7 +82,7 @@ impl NetlistMaker {
         supply: Option<bool>,
     ) -> Result<NetId, Memory>
         requires new_name { get (netlist self.old).nets name.now ≡ None }
-        requires few { length self.old.nets < 9000000 }
+        requires few { length self.old.nets < MAX_LISTED_NETS }
         ensures number { IfOk result (λ n. n.0 ≡ length self.old.nets) }
         ensures ok { OnOk result (self.new ≡ record self.old { nets = self.old.nets ++ record { name = name.now; supply = supply; tie = false } ∷ [] }) }
         ensures named { OnOk result (netlist self.new ≡ with_net (netlist self.old) name.now supply) }
@@ -101,7 +100,7 @@ impl NetlistMaker {
         Ok(NetId(number))
     }
 
-    /// Adds a component of a new name, with its pins on no net. Its point is in database units.
+    /// Adds a component of a new name, with its pins unconnected. Its point is in database units.
     pub fn add_comp(
         &mut self,
         alloc: Global,
@@ -111,7 +110,7 @@ impl NetlistMaker {
     ) -> Result<CompId, Memory>
         requires new_name { get (netlist self.old).comps name.now ≡ None }
         requires own_pins { HasOwnPins kind }
-        requires few { length self.old.comps < 1100000 }
+        requires few { length self.old.comps < MAX_LISTED_COMPS }
         ensures number { IfOk result (λ c. c.0 ≡ length self.old.comps) }
         ensures ok { OnOk result (self.new ≡ record self.old { comps = self.old.comps ++ record { name = name.now; kind = kind; place = place; joined = replicate (length (pins_of (kind_of kind))) None } ∷ [] }) }
         ensures named { OnOk result (netlist self.new ≡ with_comp (netlist self.old) name.now (kind_of kind) place) }
@@ -141,7 +140,7 @@ impl NetlistMaker {
     ) -> Result<TopId, Memory>
         requires new_name { get (netlist self.old).tops name.now ≡ None }
         requires known_net { net.0 < length self.old.nets }
-        requires few { length self.old.tops < 1000000 }
+        requires few { length self.old.tops < MAX_TOP_PINS }
         ensures number { IfOk result (λ t. t.0 ≡ length self.old.tops) }
         ensures ok { OnOk result (self.new ≡ record self.old { tops = self.old.tops ++ record { name = name.now; dir = dir; net = net.0 } ∷ [] }) }
         ensures named { OnOk result (netlist self.new ≡ with_top (netlist self.old) name.now dir (net_name self.old.nets net.0)) }
@@ -157,10 +156,11 @@ impl NetlistMaker {
         Ok(TopId(number))
     }
 
-    /// Puts a pin on a known net, whichever net it was on before.
+    /// Puts a pin on a known net, whichever net it was on before. It takes no memory, and the answer is always `Ok`.
     pub fn join(&mut self, comp: CompId, pin: u32, net: NetId) -> Result<(), Memory>
         requires known_pin { IsKnownPin self.old (PinRef.Pin comp pin) }
         requires known_net { net.0 < length self.old.nets }
+        ensures always { IsOk result }
         ensures ok { OnOk result (self.new ≡ record self.old { comps = with_joint self.old.comps comp.0 pin net.0 }) }
         ensures named { OnOk result (netlist self.new ≡ with_pin_on (netlist self.old) (pin_named self.old (PinRef.Pin comp pin)) (net_name self.old.nets net.0)) }
         ensures err { OnErr result (self.new ≡ self.old) }

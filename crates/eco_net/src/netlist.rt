@@ -1,13 +1,10 @@
-//! A netlist: what was listed, the pins of each net and its driver.
+//! A netlist: what was listed, and the driving pins of each net.
 
-use crate::drivers::drivers_of;
+use crate::drivers::{Driving, noted_of};
 use crate::ids::{CompId, Counts, NetId, PinRef, TopId};
 use crate::kind::Kind;
 use crate::maker::NetlistMaker;
-use crate::pin_lists::PinLists;
-use crate::pins::pins_by_net;
-use eco_func::Memory;
-use eco_text::{Dir, Point};
+use eco_common::{Dir, Memory, Point};
 use std::alloc::Global;
 use std::marker::Model;
 
@@ -15,8 +12,7 @@ use std::marker::Model;
 #[derive(Drop)]
 pub struct Netlist {
     pub(crate) listed: NetlistMaker,
-    pub(crate) on_net: PinLists,
-    pub(crate) drivers: Vec<Option<PinRef>>,
+    pub(crate) driving: Vec<Driving>,
 }
 
 /// A pin by its name and that of its component, or none for a top pin.
@@ -34,7 +30,7 @@ impl Model for Netlist {
 
     ghost view = { λ n. n.listed };
 
-    ghost invariant = { λ n. IsFinished n.listed n.on_net n.drivers.items };
+    ghost invariant = { λ n. IsFinished n.listed n.driving.items };
 }
 
 impl NetlistMaker {
@@ -47,13 +43,11 @@ impl NetlistMaker {
         ensures listed { IfOk result (λ n. n ≡ self) }
         ensures whole { IfOk result (λ n. IsWhole (netlist n)) }
     {
-        let _listing = self.net_count();
-        let on_net = pins_by_net(alloc, &self)?;
-        let drivers = drivers_of(alloc, &self)?;
+        self.facts();
+        let driving = noted_of(alloc, &self)?;
         Ok(Netlist {
             listed: self,
-            on_net,
-            drivers,
+            driving,
         })
     }
 }
@@ -66,11 +60,20 @@ impl Netlist {
     ghost use Rattle.eco_net.specs.declared.ids.PinRef.{PinRef};
     ghost use Rattle.eco_net.specs.Drivers.{net_of, dir_of_role};
     ghost use Rattle.eco_net.specs.Netlist.{IsWhole};
-    ghost use Rattle.eco_net.specs.Listing.{Listing, netlist, net_names, comp_names, net_name, pin_named, pin_by, IsKnownPin, FindsPin};
+    ghost use Rattle.eco_net.specs.Listing.{Listing, netlist, net_names, comp_names, net_name, pin_named, pin_by, IsKnownPin, FindsPin, FindsPinNamed};
     ghost use Rattle.eco_net.specs.ByNumber.{role_at};
     ghost use Rattle.eco_net.specs.Kept.{IsListing};
     ghost use Rattle.eco_net.specs.Pins.{DriverIs};
-    ghost use Rattle.eco_net.specs.JoinedPins.{joined_pins};
+    ghost use Rattle.eco_net.specs.JoinedPins.{joined_pins, unconnected_pins};
+
+    /// What holds of every netlist, for proofs: no name stands twice, and each net of a pin is there. It does nothing when
+    /// it runs.
+    pub fn facts(&self)
+        ensures listing { IsListing self.now }
+        ensures whole { IsWhole (netlist self.now) }
+    {
+        self.listed.facts()
+    }
 
     /// How many nets, components and top pins it has.
     pub fn counts(&self) -> Counts
@@ -88,6 +91,13 @@ impl Netlist {
         ensures { result ≡ joined_pins (netlist self.now) }
     {
         self.listed.joined_pins()
+    }
+
+    /// How many pins of components are unconnected.
+    pub fn unconnected_pins(&self) -> u64
+        ensures { result ≡ unconnected_pins (netlist self.now) }
+    {
+        self.listed.unconnected_pins()
     }
 
     /// The net of a name.
@@ -147,17 +157,19 @@ impl Netlist {
     /// The value of a supply, or none where the net is no supply.
     pub fn supply(&self, net: NetId) -> Option<bool>
         requires { net.0 < length self.now.nets }
-        ensures { option_map (λ r. r.supply) (slice_get self.now.nets net.0) ≡ Some result }
+        ensures row { option_map (λ r. r.supply) (slice_get self.now.nets net.0) ≡ Some result }
+        ensures named { get (netlist self.now).nets (net_name self.now.nets net.0) ≡ Some result }
     {
-        self.listed.net(net.0).supply
+        self.listed.supply(net)
     }
 
     /// Whether a net is a tie net.
     pub fn is_tie(&self, net: NetId) -> bool
         requires { net.0 < length self.now.nets }
-        ensures { option_map (λ r. r.tie) (slice_get self.now.nets net.0) ≡ Some result }
+        ensures row { option_map (λ r. r.tie) (slice_get self.now.nets net.0) ≡ Some result }
+        ensures named { result ≡ contains (netlist self.now).ties (net_name self.now.nets net.0) }
     {
-        self.listed.net(net.0).tie
+        self.listed.is_tie(net)
     }
 
     /// Whether a name stands for a component elsewhere.
@@ -210,9 +222,10 @@ impl Netlist {
     /// The number of a component's pin of a name.
     pub fn find_pin(&self, comp: CompId, name: &[u8]) -> Option<u32>
         requires { comp.0 < length self.now.comps }
-        ensures { FindsPin (slice_get self.now.comps comp.0) name.now result }
+        ensures row { FindsPin (slice_get self.now.comps comp.0) name.now result }
+        ensures named { FindsPinNamed self.now comp name.now result }
     {
-        self.listed.comp(comp.0).kind.find_pin(name)
+        self.listed.find_pin(comp, name)
     }
 
     /// The one driving pin of a net, or none where it has none or several. Driving pins are the chip's INPUT and INOUT
@@ -221,6 +234,6 @@ impl Netlist {
         requires { net.0 < length self.now.nets }
         ensures { DriverIs self.now (net_name self.now.nets net.0) result }
     {
-        self.drivers[net.0 as usize]
+        self.driver_at(net.0)
     }
 }

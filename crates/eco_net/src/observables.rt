@@ -14,8 +14,7 @@ ghost use Rattle.eco_net.specs.Seen.{seen_at, is_seen, same_seen};
 use crate::ids::{CompId, PinRef, TopId};
 use crate::kind::PinUse;
 use crate::netlist::Netlist;
-use eco_func::Memory;
-use eco_text::Dir;
+use eco_common::{Dir, Memory};
 use std::alloc::Global;
 
 /// Where a value is seen from outside.
@@ -107,7 +106,7 @@ impl Netlist {
     pub fn observables(&self, alloc: Global) -> Result<Vec<PinRef>, Memory>
         ensures { IfOk result (λ found. ArePins self.now (observed_order self.now) (IsObservable (netlist self.now)) found.items) }
     {
-        let _listing = self.counts();
+        self.facts();
         let mut found = Vec::new(alloc);
         self.add_tops(&mut found)?;
         self.add_comps(Seen::AtBox, &mut found)?;

@@ -5,7 +5,7 @@ ghost use Rattle.eco_net.specs.declared.ids.PinRef.{PinRef};
 ghost use Rattle.eco_net.specs.PinLists.{put, sums, lists, AreEnds};
 
 use crate::ids::{PinRef, TopId};
-use eco_func::Memory;
+use eco_common::Memory;
 use std::alloc::Global;
 use std::marker::Model;
 

@@ -7,7 +7,7 @@ ghost use Rattle.eco_net.specs.PinLists.{put_all};
 use crate::ids::{CompId, PinRef, TopId};
 use crate::maker::NetlistMaker;
 use crate::pin_lists::{Filling, PinLists};
-use eco_func::Memory;
+use eco_common::Memory;
 use std::alloc::Global;
 
 /// Puts each top pin on its net.
@@ -42,7 +42,7 @@ fn put_pins(listed: &NetlistMaker, on: &mut Filling)
     requires few { (n : ℕ) → slice_index on.old.ends n < 2 ^ 56 }
     ensures { on.new ≡ put_all listed.now on.old (all_pins listed.now) }
 {
-    let _listing = listed.net_count();
+    listed.facts();
     put_tops(listed, on);
     for comp in 0..listed.comp_count() {
         put_comp(listed, comp, on);

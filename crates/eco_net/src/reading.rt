@@ -1,39 +1,39 @@
 //! What was listed, by number and by name.
 
-ghost use Rattle.std.specs.Prelude.{◌≡◌, ◌<◌, Some, None, length, slice_get, MatchOption, IfOk};
+ghost use Rattle.std.specs.Prelude.{◌≡◌, ◌<◌, Some, None, length, slice_get, MatchOption, IfOk, IfSome};
 ghost use Rattle.std.specs.FinMap.{get};
 ghost use Rattle.std.specs.List.{AllZip};
 ghost use Rattle.std.specs.Option.{option_map};
 ghost use Rattle.std.specs.FinSet.{contains};
-ghost use Rattle.eco_net.specs.Listing.{Listing, netlist, net_names, comp_names, comp_of, FindsComp, IsKnownPin};
+ghost use Rattle.eco_net.specs.Listing.{Listing, netlist, net_names, comp_names, FindsComp, IsKnownPin};
+ghost use Rattle.eco_net.specs.Netlist.{IsWhole};
 ghost use Rattle.eco_net.specs.Kept.{IsListing, IsRow};
-ghost use Rattle.eco_net.specs.JoinedPins.{joined_pins};
-ghost use Rattle.eco_net.specs.ByNumber.{net_at, drives, end_of, joint_at};
+ghost use Rattle.eco_net.specs.JoinedPins.{joined_pins, unconnected_pins};
+ghost use Rattle.eco_net.specs.ByNumber.{net_at, drives, end_of, joint_at, found_of};
 
-use crate::ids::{CompId, Counts, NetId, PinRef};
+use crate::ids::{CompId, Counts, FoundComp, NetId, PinRef};
 use crate::maker::NetlistMaker;
 use crate::rows::{CompRow, NetRow, TopRow};
-use eco_func::Memory;
-use eco_text::Dir;
+use eco_common::{Dir, Memory};
 use std::alloc::Global;
 
-/// The component of a place, if there is one.
-fn comp_at(place: Option<u32>) -> Option<CompId>
-    ensures { result ≡ option_map comp_of place }
-{
-    match place {
-        Some(place) => Some(CompId(place)),
-        None => None,
-    }
-}
-
 impl NetlistMaker {
+    /// What holds of every listing, for proofs: no name stands twice, and each net of a pin is there. It does nothing when it
+    /// runs.
+    pub fn facts(&self)
+        ensures listing { IsListing self.now }
+        ensures whole { IsWhole (netlist self.now) }
+    {
+        self.net_count();
+    }
+
     /// How many nets, components and top pins were added.
     pub fn counts(&self) -> Counts
         ensures nets { result.nets ≡ length self.now.nets }
         ensures comps { result.comps ≡ length self.now.comps }
         ensures tops { result.tops ≡ length self.now.tops }
         ensures listing { IsListing self.now }
+        ensures whole { IsWhole (netlist self.now) }
     {
         Counts {
             nets: self.net_count(),
@@ -70,14 +70,33 @@ impl NetlistMaker {
         self.net(net.0).name.bytes()
     }
 
-    /// The component of each name, as `find_comp` gives it. For many names this takes a third of the time.
-    pub fn find_comps(&self, alloc: Global, names: &[&[u8]]) -> Result<Vec<Option<CompId>>, Memory>
-        ensures { IfOk result (λ found. AllZip (λ n c. FindsComp self.now n.now c) names.now found.items) }
+    /// The component of a place, if there is one.
+    fn found_at(&self, place: Option<u32>) -> Option<FoundComp>
+        requires { IfSome place (λ c. c < length self.now.comps) }
+        ensures { result ≡ option_map (found_of self.now) place }
+    {
+        match place {
+            Some(place) => Some(FoundComp {
+                id: CompId(place),
+                pins: self.comp(place).kind.pin_count() as u32,
+            }),
+            None => None,
+        }
+    }
+
+    /// The component of each name, as `find_comp` gives it. Look-ups of many names wait for memory together, and so do
+    /// the components' rows, where their pins are counted.
+    pub fn find_comps(
+        &self,
+        alloc: Global,
+        names: &[&[u8]],
+    ) -> Result<Vec<Option<FoundComp>>, Memory>
+        ensures { IfOk result (λ found. AllZip (λ n f. FindsComp self.now n.now f) names.now found.items) }
     {
         let places = self.comp_places.find_all(alloc, names)?;
         let mut found = Vec::with_capacity(alloc, places.len())?;
         for place in &places {
-            found.push(comp_at(*place))?;
+            found.push(self.found_at(*place))?;
         }
         Ok(found)
     }
@@ -105,12 +124,24 @@ impl NetlistMaker {
     }
 
     /// How many pins of components are on a net.
-    pub(crate) fn joined_pins(&self) -> u64
+    pub fn joined_pins(&self) -> u64
         ensures { result ≡ joined_pins (netlist self.now) }
     {
         let mut count = 0;
         for comp in 0..self.counts().comps {
             count += self.comp(comp).joined.joined() as u64;
+        }
+        count
+    }
+
+    /// How many pins of components are unconnected.
+    pub fn unconnected_pins(&self) -> u64
+        ensures { result ≡ unconnected_pins (netlist self.now) }
+    {
+        let mut count = 0;
+        for comp in 0..self.counts().comps {
+            let joined = &self.comp(comp).joined;
+            count += (joined.len() - joined.joined()) as u64;
         }
         count
     }

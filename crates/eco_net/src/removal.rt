@@ -8,7 +8,7 @@ ghost use Rattle.eco_net.specs.Removal.{unmarked_rows, marked_names, without_com
 use crate::index::NameIndex;
 use crate::maker::NetlistMaker;
 use crate::rows::CompRow;
-use eco_func::Memory;
+use eco_common::Memory;
 use std::alloc::Global;
 
 /// Adds a component, unless it is marked.

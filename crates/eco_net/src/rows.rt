@@ -4,8 +4,7 @@ ghost use Rattle.std.specs.Prelude.{◌≡◌, IfOk};
 
 use crate::joints::Joints;
 use crate::kind::Kind;
-use eco_func::{Memory, Name};
-use eco_text::{Dir, Point};
+use eco_common::{Dir, Memory, Name, Point};
 use std::alloc::Global;
 
 /// A net: its name, its value if it is a supply, and whether it is a tie net.

@@ -11,7 +11,7 @@ ghost use Rattle.eco_net.specs.declared.search.Mark.TheVariants.{Unseen, Open, D
 ghost use Rattle.eco_net.specs.Search.{IsMark, IsSearch, IsOrder, IsComputedNet, Stays, StopIs, IsRing, EndsWith, weight};
 
 use crate::netlist::Netlist;
-use eco_func::Memory;
+use eco_common::Memory;
 use std::alloc::{AllocError, AllocFailed, Global};
 
 /// How far a net is in a search.
@@ -59,7 +59,7 @@ impl Mark {
     }
 }
 
-/// Why a search stopped: nets in a ring, each read by the driver of the next, or want of memory.
+/// Why a search stopped: nets in a ring, each read by the driver of the next, or memory ran out.
 #[derive(Drop)]
 pub enum Stop {
     Ring(Vec<u32>),

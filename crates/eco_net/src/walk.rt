@@ -9,7 +9,7 @@ ghost use Rattle.eco_net.specs.Rings.{IsLeastAt};
 
 use crate::levels::Names;
 use crate::netlist::Netlist;
-use eco_func::{Memory, Name};
+use eco_common::{Memory, Name};
 use std::alloc::Global;
 
 impl Netlist {

@@ -18,12 +18,12 @@ use Rattle.eco_def.specs.declared.design.NetStatement.{NetStatement}
 use Rattle.eco_def.specs.declared.design.Design.{Design}
 use Rattle.eco_def.specs.View.{design_in, pin_in}
 use Rattle.eco_def.specs.Named.{NamedJoint, names_of, pin_names}
-use Rattle.eco_def.specs.Known.{knows}
-use Rattle.eco_issued.specs.Changes.{NewJoint, Fresh, Changes, is_nil, is_of, pin_of, pin_precedes, precedes, in_order, stays_on, stands, has_statement, new_pins, once_each, stated_first, fresh_nets, changes_of}
+use Rattle.eco_common.specs.KnownNames.{knows}
+use Rattle.eco_issued_laws.specs.Changes.{NewJoint, Fresh, Changes, is_nil, is_of, pin_of, pin_precedes, precedes, in_order, stays_on, stands, has_statement, new_pins, once_each, stated_first, fresh_nets, changes_of}
 use Rattle.eco_overlay.specs.declared.pin_move.PinMove.{PinMove}
 use Rattle.eco_overlay.specs.declared.new_joint.NewJoint as code
 use Rattle.eco_overlay.specs.declared.net_changes.NetChanges.{NetChanges}
-use Rattle.eco_full.specs.Stated.{word_bytes}
+use Rattle.eco_text.specs.Cursor.{word_bytes}
 use Rattle.eco_overlay.specs.PinMoves.{new_joint, named_joint, moved_pin, pin_cmp, marked_in, stands_in, AreInOrder, AreMarked, ArePinsApart, same_pin, are_pins_apart}
 use Rattle.eco_overlay.specs.NetChanges.{coming, pins_on, pins_for, is_statement_of, fresh_of, changes_in, first_stated}
 use Rattle.eco_overlay.proofs.Sorting.{SameSums, Ascends, ascends_sorted, in_order_is, map_sums, filter_sums}

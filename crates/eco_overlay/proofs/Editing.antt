@@ -2,7 +2,7 @@
 use Rattle.std.proofs.Common.{◌≡◌, ℕ, ◌+◌, ◌-◌, ◌<◌, ◌≤◌, List, [], ◌∷◌, ◌++◌, length, drop, get_or, slice_range, ap, sym, ◌∙◌, subst, arith, append_assoc, length-append, length-drop, Result, Ok, Err, OnErr, is_ok, if◌then◌else◌}
 use Rattle.std.proofs.lemmas.List.{drop_more, drop_all, length-take-le}
 use Rattle.eco_overlay.specs.declared.stretch.Stretch.{Stretch}
-use Rattle.eco_issued.specs.Issued.{Edit, edited, InOrder}
+use Rattle.eco_issued_laws.specs.Issued.{Edit, edited, InOrder}
 use Rattle.eco_overlay.specs.Overlays.{edits_of, Rises}
 use Rattle.eco_overlay.proofs.Stretches.{rises_room}
 

@@ -12,53 +12,11 @@ use Rattle.eco_def.specs.Design as said
 use Rattle.eco_def.specs.View.{net_in, design_in}
 use Rattle.eco_def.specs.Named.{names_of}
 use Rattle.eco_def.specs.Sections.{ArePlaced, LiesBetween, AreSpecial, AreOrdinary, DesignLies, SpecialFirst, NetsFirst}
-use Rattle.eco_issued.specs.Changes.{NewJoint, Changes, Fresh, changes_of}
-use Rattle.eco_issued.specs.Issued.{Edit, edited, InOrder, changed_text, net_edit, count_text, fresh_text, stays_whole, section_edits, special_edits, edits, nets_first, IsOverlayOf}
+use Rattle.eco_issued_laws.specs.Changes.{NewJoint, Changes, Fresh, changes_of}
+use Rattle.eco_issued_laws.specs.Issued.{Edit, edited, InOrder, changed_text, net_edit, count_text, fresh_text, stays_whole, section_edits, special_edits, edits, nets_first, IsOverlayOf}
+use Rattle.eco_issued_laws.proofs.QuietEdits.{slice_split, empty_slice, ahead, quiet, order_earlier}
 use Rattle.eco_overlay.specs.NetChanges.{of_kind}
 use Rattle.eco_overlay.specs.Overlays.{all_changed, counted, appended, section_changed, design_changed}
-
--- ---- slices
-
-nothing : (k : ℕ) → let none : List ℕ = [] in take k none ≡ none
-nothing zero = refl
-nothing (suc k) = refl
-
-take_more : (m n : ℕ) (xs : List ℕ) → take (m + n) xs ≡ take m xs ++ take n (drop m xs)
-take_more zero n xs = ap (λ k. take k xs) (omega arith)
-take_more (suc m) n [] = nothing (suc m + n) ∙ sym (nothing n)
-take_more (suc m) n (x ∷ xs) = ap (λ k. take k (x ∷ xs)) (let e : suc m + n ≡ suc (m + n) = omega arith in e) ∙ ap (λ ys. x ∷ ys) (take_more m n xs)
-
-pub slice_split : (text : List ℕ) (a b c : ℕ) → a ≤ b → b ≤ c → slice_range text a c ≡ slice_range text a b ++ slice_range text b c
-slice_split text a b c p q =
-    let long : c - a ≡ b - a + (c - b) = omega (arith, p, q) in
-    let at : a + (b - a) ≡ b = omega (arith, p) in
-    ap (λ k. take k (drop a text)) long ∙ take_more (b - a) (c - b) (drop a text) ∙ ap (λ ys. take (b - a) (drop a text) ++ take (c - b) ys) (drop-drop (b - a) a text ∙ ap (λ k. drop k text) at)
-
-drop_split : (text : List ℕ) (a b : ℕ) → a ≤ b → drop a text ≡ slice_range text a b ++ drop b text
-drop_split text a b p =
-    let at : a + (b - a) ≡ b = omega (arith, p) in
-    sym (take-append-drop (b - a) (drop a text)) ∙ ap (λ ys. take (b - a) (drop a text) ++ ys) (drop-drop (b - a) a text ∙ ap (λ k. drop k text) at)
-
-empty_slice : (text : List ℕ) (n : ℕ) → slice_range text n n ≡ []
-empty_slice text n = ap (λ k. take k (drop n text)) (let e : n - n ≡ 0 = omega arith in e)
-
--- the edited text from a place on, up to a later one before any edit, and from there on
-pub ahead : (text : List ℕ) (at m hi : ℕ) (es : List Edit) → at ≤ m → InOrder m hi es → edited text at es ≡ slice_range text at m ++ edited text m es
-ahead text at m hi [] le order = drop_split text at m le
-ahead text at m hi (e ∷ es) le order =
-    ap (λ k. k ++ (e.bytes ++ edited text e.end es)) (slice_split text at m e.start le order.0) ∙ append_assoc (slice_range text at m) (slice_range text m e.start) (e.bytes ++ edited text e.end es)
-
--- an edit that puts a stretch in its own place changes nothing
-pub quiet : (text : List ℕ) (at hi : ℕ) (e : Edit) (es : List Edit) → e.bytes ≡ slice_range text e.start e.end → at ≤ e.start → e.start ≤ e.end → InOrder e.end hi es → edited text at (e ∷ es) ≡ edited text at es
-quiet text at hi e es same a b order =
-    ap (λ k. slice_range text at e.start ++ (k ++ edited text e.end es)) same
-    ∙ sym (append_assoc (slice_range text at e.start) (slice_range text e.start e.end) (edited text e.end es))
-    ∙ ap (λ k. k ++ edited text e.end es) (sym (slice_split text at e.start e.end a b))
-    ∙ sym (ahead text at e.end hi es (omega (arith, a, b)) order)
-
-order_earlier : (lo lo' hi : ℕ) (es : List Edit) → lo' ≤ lo → InOrder lo hi es → InOrder lo' hi es
-order_earlier lo lo' hi [] le order = omega (arith, le, order)
-order_earlier lo lo' hi (e ∷ es) le order = (omega (arith, le, order.0), order.1, order.2)
 
 -- ---- edits, and the same without those that change nothing
 

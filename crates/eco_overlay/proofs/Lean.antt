@@ -7,8 +7,8 @@ use Rattle.std.proofs.lemmas.List.Concat.{flat_map-append}
 use Rattle.eco_def.specs.declared.design.NetStatement.{NetStatement}
 use Rattle.eco_def.specs.Design as said
 use Rattle.eco_def.specs.View.{net_in}
-use Rattle.eco_issued.specs.Changes.{Changes, Fresh, is_nil}
-use Rattle.eco_issued.specs.Issued.{Edit, nets_first, fresh_text}
+use Rattle.eco_issued_laws.specs.Changes.{Changes, Fresh, is_nil}
+use Rattle.eco_issued_laws.specs.Issued.{Edit, nets_first, fresh_text}
 use Rattle.eco_overlay.specs.NetChanges.{of_kind, is_before_first}
 use Rattle.eco_overlay.specs.Overlays.{changed_edits, all_changed, counted, appended}
 

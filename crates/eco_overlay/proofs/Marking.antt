@@ -9,9 +9,9 @@ use Rattle.std.proofs.lemmas.List.Folds.{list_any-append}
 use Rattle.std.proofs.lemmas.Simd.{map-map}
 use Rattle.eco_def.specs.declared.design.Joint.{Joint}
 use Rattle.eco_def.specs.declared.design.NetStatement.{NetStatement}
-use Rattle.eco_issued.specs.Changes.{is_of}
+use Rattle.eco_issued_laws.specs.Changes.{is_of}
 use Rattle.eco_overlay.specs.declared.pin_move.PinMove.{PinMove}
-use Rattle.eco_full.specs.Stated.{word_bytes}
+use Rattle.eco_text.specs.Cursor.{word_bytes}
 use Rattle.eco_overlay.specs.PinMoves.{new_joint, moved_pin, pin_cmp, names_in, marked, marked_by, marked_in, stands_in, AreInOrder}
 
 -- moves that differ in their marks alone are in order alike

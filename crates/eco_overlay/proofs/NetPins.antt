@@ -14,9 +14,9 @@ use Rattle.std.proofs.lemmas.List.Folds.{list_any-append}
 use Rattle.eco_def.specs.declared.design.NetStatement.{NetStatement}
 use Rattle.eco_def.specs.declared.design.TopPin.{TopPin}
 use Rattle.eco_overlay.specs.declared.pin_move.PinMove.{PinMove}
-use Rattle.eco_full.specs.Stated.{word_bytes}
+use Rattle.eco_text.specs.Cursor.{word_bytes}
 use Rattle.eco_overlay.specs.PinMoves.{tops_net}
-use Rattle.eco_issued.specs.Changes.{is_nil, once_each}
+use Rattle.eco_issued_laws.specs.Changes.{is_nil, once_each}
 use Rattle.eco_overlay.specs.NetChanges.{coming, pins_on, is_statement_of, first_stated}
 use Rattle.std.proofs.lemmas.Slice.Eq.{bytes_eq-Decides}
 use Rattle.eco_overlay.proofs.Orders.{eq_sym}

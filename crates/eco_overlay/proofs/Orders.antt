@@ -15,7 +15,7 @@ use Rattle.std.proofs.lemmas.Slice.Eq.{bytes_eq-Decides}
 use Rattle.std.proofs.lemmas.Bool.Decides.{same_from_decides}
 use Rattle.std.proofs.lemmas.Grind.{common_steps}
 use Rattle.eco_def.specs.Named.{NamedJoint}
-use Rattle.eco_issued.specs.Changes.{precedes, pin_precedes}
+use Rattle.eco_issued_laws.specs.Changes.{precedes, pin_precedes}
 use Rattle.eco_overlay.specs.declared.pin_move.PinMove.{PinMove}
 use Rattle.eco_overlay.specs.PinMoves.{new_joint, moved_pin, pin_cmp, same_pin, ArePinsApart, AreInOrder}
 use Rattle.eco_overlay.proofs.Sorting.{Ascends, IsLinear, ascends_sorted}

@@ -11,8 +11,8 @@ use Rattle.eco_def.specs.View.{joint_in, net_in, comp_in, pin_in, design_in}
 use Rattle.eco_def.specs.Named.{NamedDesign, NamedNet, joint_names, net_names, comp_names, pin_names, names_of}
 use Rattle.eco_overlay.specs.declared.fault.MoveFault.TheVariants.{UnknownComponent, NotOnNet, UnknownNet}
 use Rattle.eco_overlay.specs.Moving.{has_comp, has_net, move_fault}
-use Rattle.eco_issued.specs.Changes.{NewJoint, is_no_component, is_of, stands, has_statement}
-use Rattle.eco_full.specs.Stated.{word_bytes}
+use Rattle.eco_issued_laws.specs.Changes.{NewJoint, is_no_component, is_of, stands, has_statement}
+use Rattle.eco_text.specs.Cursor.{word_bytes}
 use Rattle.eco_overlay.specs.PinMoves.{stands_in, names_net, tops_net, names_comp}
 use Rattle.eco_overlay.specs.NetChanges.{is_statement_of, of_kind}
 use Rattle.eco_overlay.proofs.NetPins.{list_any-map}

@@ -5,7 +5,7 @@ use Rattle.std.specs.Cmp.{IsStrictWeakOrder}
 use Rattle.std.proofs.Common.{◌≡◌, ℕ, zero, suc, ◌+◌, ◌<◌, ◌≤◌, Bool, true, false, List, [], ◌∷◌, length, map, sum_by, get_or, refl, ap, sym, ◌∙◌, arith, if◌then◌else◌}
 use Rattle.std.proofs.lemmas.List.Sums.{sum_by-cons}
 use Rattle.std.proofs.lemmas.List.Sorted.{sorted_far}
-use Rattle.eco_issued.specs.Changes.{put_in, in_order}
+use Rattle.eco_issued_laws.specs.Changes.{put_in, in_order}
 
 -- the same values, each as often
 abbrev pub SameSums : {A : Type 0} → List A → List A → Type 0
@@ -117,7 +117,7 @@ module _ {A : Type 0} (before : A → A → Bool) where
   pub in_order_is : IsLinear before → (xs ys : List A) → Ascends before ys → SameSums xs ys → in_order before xs ≡ ys
   in_order_is l xs ys up same = same_lists l (in_order before xs) ys (order_ascends l.weak xs) up (λ f. order_sums f xs ∙ same f)
 
--- ---- the same values behind a map or a filter
+-- ---- the same values after a map or a filter
 
 pub map_sums : {A B : Type 0} (g : A → B) (f : B → ℕ) (xs : List A) → sum_by f (map g xs) ≡ sum_by (λ x. f (g x)) xs
 map_sums g f [] = refl
@@ -137,7 +137,7 @@ same_map g xs ys same f = map_sums g f xs ∙ same (λ x. f (g x)) ∙ sym (map_
 pub same_filter : {A : Type 0} (p : A → Bool) (xs ys : List A) → SameSums xs ys → SameSums (filter p xs) (filter p ys)
 same_filter p xs ys same f = filter_sums p f xs ∙ same (λ x. if p x then f x else 0) ∙ sym (filter_sums p f ys)
 
--- ---- order behind a map or a filter
+-- ---- order after a map or a filter
 
 pub all_map : {A B : Type 0} (P : B → Type 0) (g : A → B) (xs : List A) → AllByRecursion (λ x. P (g x)) xs → AllByRecursion P (map g xs)
 all_map P g [] all = tt

@@ -6,7 +6,7 @@ use Rattle.std.specs.Ordering.{is_eq}
 use Rattle.std.proofs.Common.{◌≡◌, ℕ, zero, suc, ◌<◌, Bool, true, false, not, ◌&&◌, ◌||◌, List, [], ◌∷◌, length, map, get_or, slice_set, Less, refl, ap, sym, ◌∙◌, subst, arith}
 use Rattle.std.proofs.lemmas.Slice.Eq.{bytes_eq-Decides}
 use Rattle.eco_def.specs.Named.{NamedJoint}
-use Rattle.eco_issued.specs.Changes.{NewJoint, is_no_component, is_of, stays_on, pin_of}
+use Rattle.eco_issued_laws.specs.Changes.{NewJoint, is_no_component, is_of, stays_on, pin_of}
 use Rattle.eco_overlay.specs.declared.pin_move.PinMove.{PinMove}
 use Rattle.eco_overlay.specs.PinMoves.{new_joint, moved_pin, pin_cmp, marked, AreInOrder}
 use Rattle.eco_overlay.proofs.Orders.{eq_sym}

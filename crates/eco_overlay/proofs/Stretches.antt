@@ -2,19 +2,19 @@
 use Rattle.std.proofs.Common.{◌≡◌, ℕ, ◌-◌, ◌≤◌, List, [], ◌∷◌, ◌++◌, length, take, drop, slice_range, ap, sym, ◌∙◌, arith, length-append, length-drop}
 use Rattle.std.proofs.lemmas.List.{take-append-le, drop-append-le, drop_at, take_all}
 use Rattle.eco_overlay.specs.declared.stretch.Stretch.{Stretch}
-use Rattle.eco_issued.specs.Issued.{Edit}
+use Rattle.eco_issued_laws.specs.Issued.{Edit}
 use Rattle.eco_overlay.specs.Overlays.{edits_of, Rises}
 
 pub rises_room : (lo hi : ℕ) (ss : List Stretch) → Rises lo hi ss → lo ≤ hi
 rises_room lo hi [] r = omega (arith, r)
 rises_room lo hi (s ∷ ss) r = let more = rises_room s.upto hi ss r.1 in omega (arith, r.0, more)
 
--- bytes behind don't change a slice
+-- bytes after don't change a slice
 slice_before : (bytes more : List ℕ) (a b : ℕ) → a ≤ b → b ≤ length bytes → slice_range (bytes ++ more) a b ≡ slice_range bytes a b
 slice_before bytes more a b le within =
     ap (take (b - a)) (drop-append-le a bytes more (omega (arith, le, within))) ∙ take-append-le (b - a) (drop a bytes) more (omega (arith, le, within, length-drop a bytes))
 
--- all that is behind
+-- all that is after
 slice_behind : (bytes more : List ℕ) (a b : ℕ) → a ≡ length bytes → b ≡ length (bytes ++ more) → slice_range (bytes ++ more) a b ≡ more
 slice_behind bytes more a b from upto =
     ap (take (b - a)) (drop_at bytes more a (sym from)) ∙ take_all (b - a) more (omega (arith, from, upto, length-append bytes more))

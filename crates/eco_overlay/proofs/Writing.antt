@@ -4,8 +4,8 @@ use Rattle.std.proofs.Common.{◌≡◌, ℕ, Bool, true, is_ok, if◌then◌els
 use Rattle.eco_def.specs.declared.design.Joint.{Joint}
 use Rattle.eco_def.specs.declared.design.NetStatement.{NetStatement}
 use Rattle.eco_def.specs.View.{joint_in, net_in}
-use Rattle.eco_issued.specs.Printing.{spaced}
-use Rattle.eco_issued.specs.Issued.{joint_words, joints_end, tail_text, fresh_text}
+use Rattle.eco_issued_laws.specs.Printing.{spaced}
+use Rattle.eco_issued_laws.specs.Issued.{joint_words, joints_end, tail_text, fresh_text}
 use Rattle.eco_overlay.specs.declared.pin_move.PinMove.{PinMove}
 use Rattle.eco_overlay.specs.PinMoves.{moved_pin, last_end}
 
@@ -17,12 +17,12 @@ pub if_ok : {T E : Type 0} {P Q : T → Type 0} (r : Result T E) → ((x : T) �
 if_ok (Ok x) f p = f x p
 if_ok (Err e) f p = tt
 
--- pieces put one behind another
+-- pieces put one after another
 pub put_four : (a b c d w x y z : List ℕ) → w ≡ a → x ≡ w ++ b → y ≡ x ++ c → z ≡ y ++ d → z ≡ a ++ (b ++ (c ++ d))
 put_four a b c d w x y z p q r s =
     s ∙ ap (λ k. k ++ d) (r ∙ ap (λ k. k ++ c) (q ∙ ap (λ k. k ++ b) p)) ∙ ap (λ k. k ++ d) (append_assoc a b c) ∙ append_assoc a (b ++ c) d ∙ ap (λ k. a ++ k) (append_assoc b c d)
 
--- ---- words, each behind a blank
+-- ---- words, each after a blank
 
 pub spaced_append : (xs ys : List (List ℕ)) → spaced (xs ++ ys) ≡ spaced xs ++ spaced ys
 spaced_append [] ys = refl

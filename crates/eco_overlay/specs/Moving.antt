@@ -4,8 +4,8 @@ use Rattle.std.specs.List.{list_any}
 use Rattle.std.specs.Str.{bytes_eq}
 use Rattle.eco_def.specs.Design.{Design}
 use Rattle.eco_def.specs.Named.{NamedDesign, names_of}
-use Rattle.eco_issued.specs.Changes.{is_no_component, stands, has_statement}
-use Rattle.eco_issued.specs.Issued.{Edit, IsOverlayOf}
+use Rattle.eco_issued_laws.specs.Changes.{is_no_component, stands, has_statement}
+use Rattle.eco_issued_laws.specs.Issued.{Edit, IsOverlayOf}
 use Rattle.eco_overlay.specs.declared.fault.MoveFault.{MoveFault}
 use Rattle.eco_overlay.specs.declared.fault.MoveFault.TheVariants.{Memory, UnknownComponent, NotOnNet, UnknownNet}
 

@@ -8,16 +8,17 @@ use Rattle.std.specs.Borrow.{Bor}
 use Rattle.std.specs.BTreeMap.{BTreeMap, get_by}
 use Rattle.std.specs.Cmp.Lexicographic.{slice_cmp}
 use Rattle.std.specs.Str.{bytes_eq}
+use Rattle.eco_common.specs.declared.limits.TheConstants.{MAX_NETS}
 use Rattle.eco_def.specs.declared.design.NetStatement.{NetStatement}
 use Rattle.eco_def.specs.declared.design.TopPin.{TopPin}
 use Rattle.eco_def.specs.declared.design.Design.{Design}
 use Rattle.eco_def.specs.Design as said
 use Rattle.eco_def.specs.Named.{joint_names}
-use Rattle.eco_def.specs.Known.{knows}
-use Rattle.eco_issued.specs.Changes.{Fresh, Changes, is_nil, stays_on, once_each}
+use Rattle.eco_common.specs.KnownNames.{knows}
+use Rattle.eco_issued_laws.specs.Changes.{Fresh, Changes, is_nil, stays_on, once_each}
 use Rattle.eco_overlay.specs.declared.pin_move.PinMove.{PinMove}
 use Rattle.eco_overlay.specs.declared.net_changes.NetChanges.{NetChanges}
-use Rattle.eco_full.specs.Stated.{word_bytes}
+use Rattle.eco_text.specs.Cursor.{word_bytes}
 use Rattle.eco_overlay.specs.PinMoves.{new_joint, moved_pin}
 
 -- the moves whose pins come to a net
@@ -62,7 +63,7 @@ is_before_first place (t ∷ ts) = nat_lt place t.start
 
 -- the statements of NETS are no more than the limit
 abbrev pub AreCountable : Design → Type 0
-AreCountable d = length (of_kind false d.nets) ≤ 1000000
+AreCountable d = length (of_kind false d.nets) ≤ MAX_NETS
 
 -- the nets of these pins that get a pin and have no statement, each once
 abbrev pub first_stated : List ℕ → BTreeMap (Bor (List ℕ)) (Vec PinMove Global) → List NetStatement → List TopPin → List (List ℕ)

@@ -5,8 +5,8 @@ use Rattle.eco_def.specs.declared.design.Design.{Design}
 use Rattle.eco_def.specs.Design as said
 use Rattle.eco_def.specs.View.{design_in}
 use Rattle.eco_overlay.specs.declared.stretch.Stretch.{Stretch}
-use Rattle.eco_issued.specs.Changes.{NewJoint, Fresh, Changes}
-use Rattle.eco_issued.specs.Issued.{Edit, net_edit, count_text, fresh_text, stays_whole, nets_first, IsOverlayOf}
+use Rattle.eco_issued_laws.specs.Changes.{NewJoint, Fresh, Changes}
+use Rattle.eco_issued_laws.specs.Issued.{Edit, net_edit, count_text, fresh_text, stays_whole, nets_first, IsOverlayOf}
 
 -- each stretch is replaced by the bytes from where the one before ends
 abbrev pub edits_of : List ℕ → ℕ → List Stretch → List Edit

@@ -14,8 +14,8 @@ use Rattle.eco_def.specs.Named.{NamedJoint, joint_names}
 use Rattle.eco_def.specs.View.{joint_in}
 use Rattle.eco_overlay.specs.declared.pin_move.PinMove.{PinMove}
 use Rattle.eco_overlay.specs.declared.new_joint.NewJoint as code
-use Rattle.eco_issued.specs.Changes.{NewJoint, is_of, pin_of}
-use Rattle.eco_full.specs.Stated.{word_bytes}
+use Rattle.eco_issued_laws.specs.Changes.{NewJoint, is_of, pin_of}
+use Rattle.eco_text.specs.Cursor.{word_bytes}
 
 -- the joint, by its names
 abbrev pub named_joint : code.NewJoint → NewJoint

@@ -3,16 +3,16 @@
 ghost use Rattle.std.specs.Prelude.{◌≡◌, ℕ, List, map, false, true, not, ◌||◌, ◌&&◌, IfOk, OnOk, [], ◌∷◌, ◌++◌, if◌then◌else◌};
 ghost use Rattle.std.specs.Str.{bytes_eq};
 ghost use Rattle.std.specs.List.{list_any};
-ghost use Rattle.eco_def.specs.Known.{knows};
-ghost use Rattle.eco_issued.specs.Changes.{is_nil};
-ghost use Rattle.eco_full.specs.Stated.{word_bytes};
+ghost use Rattle.eco_common.specs.KnownNames.{knows};
+ghost use Rattle.eco_issued_laws.specs.Changes.{is_nil};
+ghost use Rattle.eco_text.specs.Cursor.{word_bytes};
 ghost use Rattle.eco_overlay.specs.NetChanges.{coming, pins_on, pins_for, is_statement_of, first_stated};
 
-use crate::names::{Names, add_name, has_name};
 use crate::net_changes::{Added, NetChanges};
 use crate::pin_move::PinMove;
+use eco_common::{Names, add_name, has_name};
 use eco_def::{NetStatement, TopPin};
-use eco_full::bytes_at;
+use eco_text::bytes_at;
 use std::alloc::{AllocError, Global};
 use std::collections::{BTreeMap, HashMap};
 

@@ -6,7 +6,7 @@ ghost use Rattle.eco_overlay.specs.declared.fault.MoveFault.TheVariants.{Memory}
 use std::alloc::AllocError;
 use thiserror::Error;
 
-/// Why `move_joint` refuses a move, the first reason that holds, or want of memory.
+/// Why `move_joint` refuses a move, the first reason that holds, or out of memory.
 #[derive(Clone, Copy, Debug, Drop, PartialEq, Eq, Error)]
 pub enum MoveFault {
     /// No component has the name. `PIN` and `*` name none.

@@ -3,7 +3,7 @@
 ghost use Rattle.std.specs.Prelude.{◌≡◌, ◌+◌, ◌++◌, [], map, not, length, OnOk, IfOk};
 ghost use Rattle.std.specs.List.{filter, flat_map};
 ghost use Rattle.eco_def.specs.View.{design_in};
-ghost use Rattle.eco_issued.specs.Issued.{fresh_text};
+ghost use Rattle.eco_issued_laws.specs.Issued.{fresh_text};
 ghost use Rattle.eco_overlay.specs.NetChanges.{fresh_of, changes_in, AreCountable};
 ghost use Rattle.eco_overlay.specs.Overlays.{counted, appended};
 

@@ -5,8 +5,8 @@ ghost use Rattle.std.specs.List.{filter, list_any};
 ghost use Rattle.eco_def.specs.View.{net_in, design_in};
 ghost use Rattle.eco_def.specs.Named.{names_of};
 ghost use Rattle.eco_def.specs.Sections.{IsReadingOf};
-ghost use Rattle.eco_issued.specs.Changes.{changes_of};
-ghost use Rattle.eco_issued.specs.Issued.{IsOverlayOf, nets_first};
+ghost use Rattle.eco_issued_laws.specs.Changes.{changes_of};
+ghost use Rattle.eco_issued_laws.specs.Issued.{IsOverlayOf, nets_first};
 ghost use Rattle.eco_overlay.specs.PinMoves.{new_joint, AreInOrder, ArePinsApart, AreMarked};
 ghost use Rattle.eco_overlay.specs.NetChanges.{changes_in, is_whole, of_kind, is_before_first, AreCountable};
 ghost use Rattle.eco_overlay.specs.Overlays.{changed_edits, all_changed, section_changed, design_changed};
@@ -21,7 +21,7 @@ use crate::pin_move::PinMove;
 use crate::standing::mark_standing;
 use crate::statement::put_statement;
 use eco_def::{Design, NetStatement};
-use eco_full::bytes_at;
+use eco_text::bytes_at;
 use std::alloc::{AllocError, Global};
 
 /// The moves in order, and those marked whose pins stand on their nets.

@@ -3,12 +3,13 @@
 ghost use Rattle.std.specs.Prelude.{◌≡◌, map, OnOk};
 ghost use Rattle.std.specs.List.{list_all};
 ghost use Rattle.std.specs.List.Sorted.{IsPermutation};
-ghost use Rattle.eco_issued.specs.Changes.{stays_on};
+ghost use Rattle.eco_issued_laws.specs.Changes.{stays_on};
 ghost use Rattle.eco_overlay.specs.PinMoves.{new_joint, moved_pin, pin_cmp, names_in, ArePinsApart, AreInOrder, IsPlaceOf};
 
 use crate::pin_move::PinMove;
 use eco_def::{Joint, Joints};
-use eco_full::{bytes_at, is_no_component};
+use eco_issued_laws::is_no_component;
+use eco_text::bytes_at;
 use std::cmp::Ordering;
 
 /// How a move's pin stands to another pin.

@@ -5,11 +5,11 @@ ghost use Rattle.std.specs.Str.{bytes_eq};
 ghost use Rattle.std.specs.List.{list_any};
 ghost use Rattle.eco_def.specs.View.{design_in};
 ghost use Rattle.eco_def.specs.Sections.{IsReadingOf};
-ghost use Rattle.eco_issued.specs.Changes.{is_no_component as no_component, is_of as of_pin};
-ghost use Rattle.eco_issued.specs.Issued.{IsOverlayOf};
+ghost use Rattle.eco_issued_laws.specs.Changes.{is_no_component as no_component, is_of as of_pin};
+ghost use Rattle.eco_issued_laws.specs.Issued.{IsOverlayOf};
 ghost use Rattle.eco_overlay.specs.Overlays.{IsMadeFor};
 ghost use Rattle.eco_overlay.specs.Moving.{Moves};
-ghost use Rattle.eco_full.specs.Stated.{word_bytes};
+ghost use Rattle.eco_text.specs.Cursor.{word_bytes};
 ghost use Rattle.eco_overlay.specs.PinMoves.{new_joint, names_in, stands_in, names_net, tops_net, names_comp};
 
 use crate::fault::MoveFault;
@@ -17,7 +17,8 @@ use crate::issuing::overlay_of;
 use crate::overlay::Overlay;
 use crate::pin_move::PinMove;
 use eco_def::{Comp, Design, Joint, Joints, NetStatement, TopPin};
-use eco_full::{bytes_at, is_no_component};
+use eco_issued_laws::is_no_component;
+use eco_text::bytes_at;
 use std::alloc::{AllocError, Global};
 
 fn is_of(text: &[u8], joint: Joint, pin: &PinMove<'_>) -> bool

@@ -1,31 +1,9 @@
-//! Sets of names.
+//! Names in order.
 
-ghost use Rattle.std.specs.Prelude.{◌≡◌, ℕ, List, true, not, IfOk, OnOk, if◌then◌else◌};
-ghost use Rattle.std.specs.Str.{bytes_eq};
+ghost use Rattle.std.specs.Prelude.{◌≡◌};
 ghost use Rattle.std.specs.List.Sorted.{IsPermutation, IsSortedBy};
 ghost use Rattle.std.specs.Ordering.{is_lt, nat_cmp};
 ghost use Rattle.std.specs.Cmp.Lexicographic.{slice_cmp};
-ghost use Rattle.eco_def.specs.Known.{knows};
-
-use std::alloc::AllocError;
-use std::collections::HashMap;
-
-/// A set of names.
-pub type Names<'a> = HashMap<&'a [u8], ()>;
-
-/// Adds a name, and says whether it is new.
-pub fn add_name<'a>(names: &mut Names<'a>, name: &'a [u8]) -> Result<bool, AllocError>
-    ensures added { IfOk result (λ b. b ≡ not (knows names.old name.now)) }
-    ensures names { OnOk result ((q : List ℕ) → knows names.new q ≡ (if bytes_eq name.now q then true else knows names.old q)) }
-{
-    Ok(names.insert(name, ())?.is_none())
-}
-
-pub fn has_name(names: &Names<'_>, name: &[u8]) -> bool
-    ensures { result ≡ knows names.now name.now }
-{
-    names.get(&name).is_some()
-}
 
 /// Puts names in order, by their bytes.
 pub fn sort_names(names: &mut Vec<&[u8]>)

@@ -1,7 +1,7 @@
 //! What changes in the nets of a design.
 
-use crate::names::Names;
 use crate::pin_move::PinMove;
+use eco_common::Names;
 use std::collections::BTreeMap;
 
 /// The pins that come to nets where they don't stand, net by net.

@@ -1,6 +1,6 @@
 //! A pin on a net.
 
-use eco_func::Name;
+use eco_common::Name;
 
 /// A pin of a component, and the net that it is put on.
 #[derive(Drop)]

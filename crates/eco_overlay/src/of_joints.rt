@@ -4,7 +4,7 @@ ghost use Rattle.std.specs.Prelude.{◌≡◌, map, false, IfOk};
 ghost use Rattle.std.specs.List.{list_any};
 ghost use Rattle.eco_def.specs.View.{design_in};
 ghost use Rattle.eco_def.specs.Sections.{IsReadingOf};
-ghost use Rattle.eco_issued.specs.Issued.{IsOverlayOf};
+ghost use Rattle.eco_issued_laws.specs.Issued.{IsOverlayOf};
 ghost use Rattle.eco_overlay.specs.PinMoves.{new_joint, named_joint, ArePinsApart};
 ghost use Rattle.eco_overlay.specs.Overlays.{IsMadeFor};
 
@@ -12,8 +12,8 @@ use crate::issuing::overlay_of;
 use crate::new_joint::NewJoint;
 use crate::overlay::Overlay;
 use crate::pin_move::PinMove;
+use eco_common::{Memory, Name};
 use eco_def::Design;
-use eco_func::{Memory, Name};
 use std::alloc::{AllocError, Global};
 
 /// The joint as a move that isn't marked.

@@ -2,15 +2,16 @@
 
 ghost use Rattle.std.specs.Prelude.{◌≡◌, ◌≤◌, [], ◌∷◌, ◌++◌, length, OnOk};
 ghost use Rattle.eco_text.specs.Writing.{Writes};
-ghost use Rattle.eco_issued.specs.Issued.{Edit, edited, InOrder};
+ghost use Rattle.eco_issued_laws.specs.Issued.{Edit, edited, InOrder};
 ghost use Rattle.eco_overlay.specs.Overlays.{edits_of, Rises};
 
 use crate::stretch::Stretch;
-use eco_text::{Failed, Sink, between, part, write_piece, write_pieces};
+use eco_common::{Failed, MAX_DEF_BYTES};
+use eco_text::{Sink, between, part, write_piece, write_pieces};
 use std::alloc::{AllocError, Global};
 use std::marker::Model;
 
-/// Edits of a text, one behind another: stretches of it, and the bytes that stand in their place.
+/// Edits of a text, one after another: stretches of it, and the bytes that stand in their place.
 #[derive(Debug, Drop)]
 pub struct Overlay {
     bytes: Vec<u8>,
@@ -19,7 +20,7 @@ pub struct Overlay {
 
 impl Model for Overlay {
     ghost use Rattle.std.specs.Prelude.{List, length};
-    ghost use Rattle.eco_issued.specs.Issued.{Edit};
+    ghost use Rattle.eco_issued_laws.specs.Issued.{Edit};
     ghost use Rattle.eco_overlay.specs.Overlays.{edits_of, Rises};
 
     ghost Value = { List Edit };
@@ -42,7 +43,7 @@ fn write_stretches<K: Sink>(
     stretches: &[Stretch],
     sink: &mut K,
 ) -> Result<(), Failed>
-    requires short { length text.now ≤ 134217728 }
+    requires short { length text.now ≤ MAX_DEF_BYTES }
     requires rises { Rises 0 (length bytes.now) stretches.now }
     ensures { Writes K.taken K.faults sink.old sink.new result (edited text.now 0 (edits_of bytes.now 0 stretches.now)) }
 {
@@ -60,7 +61,7 @@ fn write_stretches<K: Sink>(
 
 /// How many bytes that text has.
 fn stretched_len(text: &[u8], bytes: &[u8], stretches: &[Stretch]) -> u64
-    requires short { length text.now ≤ 134217728 }
+    requires short { length text.now ≤ MAX_DEF_BYTES }
     requires rises { Rises 0 (length bytes.now) stretches.now }
     requires order { InOrder 0 (length text.now) (edits_of bytes.now 0 stretches.now) }
     ensures { result ≡ length (edited text.now 0 (edits_of bytes.now 0 stretches.now)) }
@@ -74,7 +75,7 @@ fn stretched_len(text: &[u8], bytes: &[u8], stretches: &[Stretch]) -> u64
 
 impl Overlay {
     /// An overlay without edits.
-    pub fn new(alloc: Global) -> Overlay
+    pub(crate) fn new(alloc: Global) -> Overlay
         ensures { result ≡ [] }
     {
         Overlay {
@@ -83,8 +84,8 @@ impl Overlay {
         }
     }
 
-    /// Adds one edit behind the others.
-    pub fn add(&mut self, start: u32, end: u32, bytes: &[u8]) -> Result<(), AllocError>
+    /// Adds one edit after the others.
+    pub(crate) fn add(&mut self, start: u32, end: u32, bytes: &[u8]) -> Result<(), AllocError>
         ensures { OnOk result (self.new ≡ self.old ++ record { start = start; end = end; bytes = bytes.now } ∷ []) }
     {
         self.stretches.reserve(1)?;
@@ -95,16 +96,16 @@ impl Overlay {
     }
 
     /// Writes the edited text.
-    pub fn write_edited<K: Sink>(&self, text: &[u8], sink: &mut K) -> Result<(), Failed>
-        requires { length text.now ≤ 134217728 }
+    pub(crate) fn write_edited<K: Sink>(&self, text: &[u8], sink: &mut K) -> Result<(), Failed>
+        requires { length text.now ≤ MAX_DEF_BYTES }
         ensures { Writes K.taken K.faults sink.old sink.new result (edited text.now 0 self.now) }
     {
         write_stretches(text, &self.bytes, &self.stretches, sink)
     }
 
-    /// How many bytes the edited text has, where the edits lie in the text, one behind another.
-    pub fn edited_len(&self, text: &[u8]) -> u64
-        requires short { length text.now ≤ 134217728 }
+    /// How many bytes the edited text has, where the edits lie in the text, one after another.
+    pub(crate) fn edited_len(&self, text: &[u8]) -> u64
+        requires short { length text.now ≤ MAX_DEF_BYTES }
         requires order { InOrder 0 (length text.now) self.now }
         ensures { result ≡ length (edited text.now 0 self.now) }
     {

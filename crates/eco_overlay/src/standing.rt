@@ -1,13 +1,14 @@
 //! Which pins stand on their nets already.
 
 ghost use Rattle.std.specs.Prelude.{◌≡◌, map};
-ghost use Rattle.eco_full.specs.Stated.{word_bytes};
+ghost use Rattle.eco_text.specs.Cursor.{word_bytes};
 ghost use Rattle.eco_overlay.specs.PinMoves.{names_in, marked, marked_by, marked_in, AreInOrder};
 
 use crate::moves::place_of;
 use crate::pin_move::PinMove;
 use eco_def::{Joint, Joints, NetStatement};
-use eco_full::{bytes_at, is_no_component};
+use eco_issued_laws::is_no_component;
+use eco_text::bytes_at;
 
 /// Marks the move of a joint of a net, where it stands on that net.
 fn mark_joint(text: &[u8], joint: Joint, net: &[u8], moves: &mut [PinMove<'_>])

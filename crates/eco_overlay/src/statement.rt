@@ -3,9 +3,9 @@
 ghost use Rattle.std.specs.Prelude.{◌≡◌, ◌++◌, map, OnOk};
 ghost use Rattle.std.specs.List.{flat_map};
 ghost use Rattle.eco_def.specs.View.{joint_in, net_in};
-ghost use Rattle.eco_issued.specs.Printing.{spaced};
-ghost use Rattle.eco_issued.specs.Changes.{stays_on};
-ghost use Rattle.eco_issued.specs.Issued.{kept_text, joint_words, tail_text, changed_text, fresh_text};
+ghost use Rattle.eco_issued_laws.specs.Printing.{spaced};
+ghost use Rattle.eco_issued_laws.specs.Changes.{stays_on};
+ghost use Rattle.eco_issued_laws.specs.Issued.{kept_text, joint_words, tail_text, changed_text, fresh_text};
 ghost use Rattle.eco_overlay.specs.PinMoves.{new_joint, moved_pin, last_end, AreInOrder};
 ghost use Rattle.eco_overlay.specs.NetChanges.{pins_on, pins_for, changes_in};
 
@@ -15,11 +15,10 @@ use crate::moves::stays;
 use crate::net_changes::{Added, NetChanges};
 use crate::pin_move::PinMove;
 use eco_def::{Joint, Joints, NetStatement};
-use eco_full::bytes_at;
-use eco_text::between;
+use eco_text::{between, bytes_at};
 use std::alloc::AllocError;
 
-/// Appends a joint that stays, behind a blank.
+/// Appends a joint that stays, after a blank.
 fn put_joint(
     bytes: &mut Vec<u8>,
     text: &[u8],

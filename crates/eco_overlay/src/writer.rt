@@ -4,13 +4,14 @@ ghost use Rattle.std.specs.Prelude.{◌≡◌, ◌≤◌, ℕ, List, length};
 ghost use Rattle.eco_text.specs.Writing.{Writes};
 ghost use Rattle.eco_def.specs.View.{design_in};
 ghost use Rattle.eco_def.specs.Sections.{IsReadingOf};
-ghost use Rattle.eco_issued.specs.Changes.{NewJoint};
-ghost use Rattle.eco_issued.specs.Issued.{edited, issued_text, IsOverlayOf};
+ghost use Rattle.eco_issued_laws.specs.Changes.{NewJoint};
+ghost use Rattle.eco_issued_laws.specs.Issued.{edited, issued_text, IsOverlayOf};
 ghost use Rattle.eco_overlay.specs.Overlays.{IsMadeFor};
 
 use crate::overlay::Overlay;
+use eco_common::Failed;
 use eco_def::Design;
-use eco_text::{Failed, Sink};
+use eco_text::Sink;
 
 /// How many bytes the issued text has. The overlay was made for the text and its design.
 pub fn emit_len(text: &[u8], design: &Design, overlay: &Overlay) -> u64

@@ -1,7 +1,8 @@
 //! Functions files, tables and masters.
 
 use crate::line::{push_bytes, repeated};
-use eco_func::{MasterFn, Memory, Name, OutputFn, Table, read_functions, read_table};
+use eco_common::{Memory, Name};
+use eco_func::{MasterFn, OutputFn, Table, read_functions, read_table};
 use std::alloc::Global;
 use std::test::Fail;
 

@@ -1,8 +1,8 @@
 //! LEF libraries.
 
 use crate::line::push_bytes;
+use eco_common::Dir;
 use eco_lef::{LefFault, Library, Master, read_lef};
-use eco_text::Dir;
 use std::alloc::Global;
 use std::test::Fail;
 

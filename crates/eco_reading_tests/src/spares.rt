@@ -1,8 +1,8 @@
 //! Desk files.
 
 use crate::line::push_bytes;
-use eco_func::Name;
-use eco_spares::{DeskFile, read_desk};
+use eco_common::Name;
+use eco_desk_file::{DeskFile, read_desk};
 use std::alloc::Global;
 use std::test::Fail;
 

@@ -5,10 +5,8 @@ use Rattle.std.specs.Borrow.{Bor}
 use Rattle.std.specs.List.{flat_map}
 use Rattle.std.proofs.lemmas.List.Concat.{flat_map-append}
 use Rattle.std.proofs.lemmas.List.{take-append-le, take_min, take-append-drop, drop_more}
-use Rattle.eco_text.specs.Writing.{joined}
-use Rattle.eco_text.specs.Causes.{AppendsFront}
-use Rattle.eco_text.specs.declared.failed.Failed.{Failed}
-use Rattle.eco_text.specs.Writing.{Writes}
+use Rattle.eco_text.specs.Writing.{joined, AppendsFront, Writes}
+use Rattle.eco_common.specs.declared.failed.Failed.{Failed}
 
 pub appends_nothing : (known : Option (List ℕ)) → known ≡ append_known known []
 appends_nothing None = refl
@@ -40,7 +38,7 @@ front_longer a b xs ys front =
 pub begun : {K T E : Type 0} (taken : K → Option (List ℕ)) (faults : K → ℕ) (k : K) (x : T) → Writes {E = E} taken faults k k (Ok x) []
 begun taken faults k x = record { bytes_taken = appends_nothing (taken k); cause = record { later = omega arith; failed = tt } }
 
--- a write that went well, and one behind it
+-- a write that went well, and one after it
 pub then : {K : Type 0} {taken : K → Option (List ℕ)} {faults : K → ℕ} {old mid new : K} {r : Result (Unit {0}) Failed} {xs ys : List ℕ} →
     Writes {T = Unit {0}} {E = Failed} taken faults old mid (Ok (tt {0})) xs → Writes taken faults mid new r ys → Writes taken faults old new r (xs ++ ys)
 then {taken} {faults} {old} {mid} {new} {r = Ok y} {xs} {ys} first second =
@@ -56,7 +54,7 @@ pub longer : {K : Type 0} {taken : K → Option (List ℕ)} {faults : K → ℕ}
     Writes {T = Unit {0}} taken faults old new (Err e) xs → Writes {T = Unit {0}} taken faults old new (Err e) (xs ++ ys)
 longer {taken} {faults} {old} {new} {e} {xs} ys failed = record { bytes_taken = front_longer (taken old) (taken new) xs ys failed.bytes_taken; cause = failed.cause }
 
--- the pieces before one, that one, and those behind it
+-- the pieces before one, that one, and those after it
 pub joined_split : (d : Bor (List ℕ)) (ps : List (Bor (List ℕ))) (i : ℕ) → i < length ps →
     joined ps ≡ (joined (take i ps) ++ (get_or ps i d).now) ++ joined (drop (i + 1) ps)
 joined_split d ps i lt =

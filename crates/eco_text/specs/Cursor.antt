@@ -21,6 +21,10 @@ rest c = from c.text c.at
 abbrev pub token : List ℕ → Word → Token
 token text w = record { bytes = slice_range text w.start w.end; quoted = w.quoted; start = w.start; end = w.end }
 
+-- the bytes of a word in its text
+abbrev pub word_bytes : List ℕ → Word → List ℕ
+word_bytes text w = (token text w).bytes
+
 -- what was left before an answer, by what is left after it
 abbrev pub after : List ℕ → Result (Option Word) TextFault → Walk → Walk
 after text (Ok (Some w)) left = word_then (token text w) left

@@ -1,7 +1,7 @@
 -- Sources and sinks in memory.
 use Rattle.std.specs.Prelude.{◌≡◌, ℕ, ◌==◌, Bool, List}
 use Rattle.std.specs.List.{list_any}
-use Rattle.eco_text.specs.Causes.{next_count}
+use Rattle.eco_common.specs.Causes.{next_count}
 
 -- bytes that are left to read or were taken; the numbers, from 1, of the calls that fail; how many calls there were, and how many failed
 pub record InMemory : Type 0 where

@@ -2,8 +2,8 @@ pub mod Words
 pub mod Splices
 pub mod Bytes
 pub mod Cursor
+pub mod Tokens
 pub mod Numbers
-pub mod Causes
 pub mod Streams
 pub mod Writing
 pub mod InMemory

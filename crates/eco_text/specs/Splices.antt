@@ -2,7 +2,7 @@
 use Rattle.std.specs.Prelude.{◌≡◌, ℕ, ◌+◌, List, [], ◌∷◌, ◌++◌, length}
 use Rattle.eco_text.specs.Words.{Token, Mode, walk, step, ends, ◌+++◌}
 
--- the mode behind some bytes, and the words that ended in them
+-- the mode after some bytes, and the words that ended in them
 abbrev pub mode_after : Mode → ℕ → List ℕ → Mode
 mode_after mode place [] = mode
 mode_after mode place (b ∷ bs) = mode_after (step mode place b) (place + 1) bs

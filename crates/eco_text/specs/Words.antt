@@ -32,7 +32,7 @@ plain_word start bytes end = record { bytes = bytes; quoted = false; start = sta
 abbrev pub quoted_word : ℕ → List ℕ → ℕ → Token
 quoted_word start bytes end = record { bytes = bytes; quoted = true; start = start; end = end }
 
--- the mode behind a byte at a place
+-- the mode after a byte at a place
 abbrev pub step : Mode → ℕ → ℕ → Mode
 step between place b =
     if is_blank b then between

@@ -1,15 +1,17 @@
 //! A sink in memory.
 
-ghost use Rattle.std.specs.Prelude.{◌≡◌, ◌≤◌, [], nat_lt, true, is_err};
-ghost use Rattle.eco_text.specs.Causes.{HasCause, WritesAll, Rose};
+ghost use Rattle.std.specs.Prelude.{◌≡◌, ◌≤◌, [], nat_lt, true, is_err, OnErr};
+ghost use Rattle.eco_common.specs.Causes.{HasCause, Rose};
+ghost use Rattle.eco_text.specs.Writing.{WritesAll};
 ghost use Rattle.eco_text.specs.InMemory.{CountsCall, is_due};
 
-use crate::failed::Failed;
 use crate::schedule::Schedule;
 use crate::sink::Sink;
+use eco_common::Failed;
 use std::marker::Model;
 
-/// A sink in memory, of which some calls fail. A call that fails takes nothing. Want of memory counts as a fault.
+/// A sink in memory, of which some calls fail. A call that fails takes nothing. A call that finds no memory counts as one that
+/// fails.
 #[derive(Drop)]
 pub struct ByteSink {
     bytes: Vec<u8>,
@@ -72,6 +74,7 @@ impl Sink for ByteSink {
 
     fn write_all(&mut self, piece: &[u8]) -> Result<(), Failed>
         ensures bytes { WritesAll (Some self.old.bytes) (Some self.new.bytes) result piece.now }
+        ensures nothing { OnErr result (self.new.bytes ≡ self.old.bytes) }
         ensures cause { HasCause self.old.faults self.new.faults result }
         ensures due { is_due self.old ≡ true → is_err result ≡ true }
         ensures counts { CountsCall self.old self.new }

@@ -1,13 +1,13 @@
 //! A source in memory.
 
 ghost use Rattle.std.specs.Prelude.{◌≡◌, nat_lt, is_err};
-ghost use Rattle.eco_text.specs.Causes.{HasCause};
+ghost use Rattle.eco_common.specs.Causes.{HasCause};
 ghost use Rattle.eco_text.specs.InMemory.{CountsCall, is_due};
 ghost use Rattle.eco_text.specs.Streams.{Takes};
 
-use crate::failed::Failed;
 use crate::schedule::Schedule;
 use crate::source::Source;
+use eco_common::Failed;
 use std::marker::Model;
 
 /// A source in memory, of which some calls fail. A call that fails takes nothing.

@@ -7,8 +7,6 @@ ghost use Rattle.eco_text.specs.Splices.{Splices};
 
 mod byte_sink;
 mod byte_source;
-mod failed;
-mod geometry;
 mod numbers;
 mod pieces;
 mod schedule;
@@ -19,14 +17,13 @@ mod words;
 
 pub use crate::byte_sink::ByteSink;
 pub use crate::byte_source::ByteSource;
-pub use crate::failed::Failed;
-pub use crate::geometry::{Dir, Point};
 pub use crate::numbers::{BadNumber, read_i32, read_microns, read_natural, read_number};
-pub use crate::pieces::{between, part, write_piece, write_pieces};
+pub use crate::pieces::{between, bytes_at, part, write_piece, write_pieces};
 pub use crate::sink::Sink;
 pub use crate::source::Source;
 pub use crate::word::{TextFault, Word};
 pub use crate::words::Words;
+pub use eco_common::{Dir, Failed, Point};
 
 /// A law of words: the words of two parts of a text are those that end in the first, and then those of the second,
 /// read in the mode that the first part leaves.

@@ -6,6 +6,7 @@ ghost use Rattle.std.specs.List.{list_all, list_any, position_or_len};
 ghost use Rattle.eco_text.specs.Numbers.{natural_of, number_of, at_most, integer_of, digits_behind, is_point, six_of, microns_of};
 
 use crate::pieces::part;
+use eco_common::MAX_MILLIONTHS;
 use thiserror::Error;
 
 /// A word is no number, or one out of range.
@@ -68,9 +69,6 @@ pub fn read_i32(word: &[u8]) -> Result<i32, BadNumber>
     }
 }
 
-/// The longest length, in millionths of a micron.
-const MOST_MILLIONTHS: u64 = 10_000_000_000;
-
 fn point_place(word: &[u8]) -> Option<usize>
     ensures { result ≡ position is_point word.now }
 {
@@ -108,11 +106,11 @@ fn six_decimals(digits: &[u8]) -> [u8; 6]
     six
 }
 
-/// The millionths that digits make behind those of a number, where they are at most the longest length.
+/// The millionths that digits make after those of a number, where they are at most the longest length.
 #[tactic(auto, using(crate::proofs::DigitSteps::above_limit, crate::proofs::DigitSteps::digit_on))]
 fn read_millionths(before: u64, digits: &[u8]) -> Option<u64>
-    requires { before ≤ 10000000000 }
-    ensures { result ≡ at_most 10000000000 (digits_behind before digits.now) }
+    requires { before ≤ MAX_MILLIONTHS }
+    ensures { result ≡ at_most MAX_MILLIONTHS (digits_behind before digits.now) }
 {
     let mut number = before;
     for digit in digits {
@@ -120,7 +118,7 @@ fn read_millionths(before: u64, digits: &[u8]) -> Option<u64>
             return None;
         }
         let longer = number * 10 + u64::from(digit - b'0');
-        if longer > MOST_MILLIONTHS {
+        if longer > MAX_MILLIONTHS {
             return None;
         }
         number = longer;
@@ -142,8 +140,8 @@ fn millionths(word: &[u8]) -> Option<u64>
     read_millionths(whole, &six_decimals(decimals))
 }
 
-/// A length in millionths of a micron: digits with a point before, among or behind them, or without one, up to 10,000
-/// microns. Digits behind the sixth decimal are dropped.
+/// A length in millionths of a micron: digits with a point before, among or after them, or without one, up to 10,000
+/// microns. Digits after the sixth decimal are dropped.
 pub fn read_microns(word: &[u8]) -> Result<u64, BadNumber>
     ensures { MatchResult result (λ x. microns_of word.now ≡ Some x) (λ _. microns_of word.now ≡ None) }
 {

@@ -17,7 +17,7 @@ fn lists(failing: &[u64], call: u64) -> bool
 }
 
 impl Schedule {
-    ghost use Rattle.eco_text.specs.Causes.{next_count};
+    ghost use Rattle.eco_common.specs.Causes.{next_count};
 
     pub fn new(failing: Vec<u64>) -> Schedule
         ensures failing { result.failing ≡ failing }

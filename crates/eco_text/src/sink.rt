@@ -1,13 +1,14 @@
 //! Where bytes go to.
 
 ghost use Rattle.std.specs.Prelude.{◌≡◌, ℕ, List, Option};
-ghost use Rattle.eco_text.specs.Causes.{HasCause, WritesAll};
+ghost use Rattle.eco_common.specs.Causes.{HasCause};
+ghost use Rattle.eco_text.specs.Writing.{WritesAll};
 
-use crate::failed::Failed;
+use eco_common::Failed;
 
 /// Takes bytes one piece after another.
 pub trait Sink {
-    /// The bytes that were taken, where it tells them.
+    /// The bytes that were taken, where it reports them.
     ghost taken: { Self → Option (List ℕ) };
 
     /// How often a call has failed. It never falls.

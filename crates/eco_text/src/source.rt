@@ -1,14 +1,14 @@
 //! Where bytes come from.
 
 ghost use Rattle.std.specs.Prelude.{◌≡◌, ℕ, List, Option, length};
-ghost use Rattle.eco_text.specs.Causes.{HasCause};
+ghost use Rattle.eco_common.specs.Causes.{HasCause};
 ghost use Rattle.eco_text.specs.Streams.{Takes};
 
-use crate::failed::Failed;
+use eco_common::Failed;
 
 /// Bytes that are read from front to back.
 pub trait Source {
-    /// The bytes that are left, where it tells them.
+    /// The bytes that are left, where it reports them.
     ghost left: { Self → Option (List ℕ) };
 
     /// How often a call has failed. It never falls.

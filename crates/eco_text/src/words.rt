@@ -7,6 +7,7 @@ ghost use Rattle.eco_text.specs.Bytes.{begins_word, is_line_feed, quoted_len, op
 ghost use Rattle.eco_text.specs.Cursor.{from, token, rest, after, IsWithin};
 
 use crate::word::{TextFault, Word};
+use eco_common::MAX_DEF_BYTES;
 use std::marker::Model;
 
 /// A walk over the words of a text, from front to back.
@@ -22,13 +23,14 @@ pub struct Words<'a> {
 
 impl<'a> Model for Words<'a> {
     ghost use Rattle.std.specs.Prelude.{◌≤◌, length};
+    ghost use Rattle.eco_common.specs.declared.limits.TheConstants.{MAX_DEF_BYTES};
     ghost use Rattle.eco_text.specs.Cursor.{Cursor};
 
     ghost Value = { Cursor };
 
     ghost view = { λ w. record { text = w.text.now; at = w.at } };
 
-    ghost invariant = { λ w. (w.at ≤ length w.text.now) × (length w.text.now ≤ 134217728) };
+    ghost invariant = { λ w. (w.at ≤ length w.text.now) × (length w.text.now ≤ MAX_DEF_BYTES) };
 }
 
 fn is_white(byte: u8) -> bool
@@ -67,7 +69,7 @@ fn plain_len(bytes: &[u8]) -> usize
     white_place(bytes).unwrap_or(bytes.len())
 }
 
-/// How many bytes a quoted word has behind its opening quote.
+/// How many bytes a quoted word has after its opening quote.
 fn quoted_tail_len(bytes: &[u8]) -> Option<usize>
     ensures within { IfSome result (λ n. n ≤ length bytes.now) }
     ensures first { result ≡ quoted_len false bytes.now }
@@ -82,7 +84,7 @@ fn quoted_tail_len(bytes: &[u8]) -> Option<usize>
     None
 }
 
-/// Where the next word begins from `from` on, behind white space and comments, or the text's end.
+/// Where the next word begins from `from` on, after white space and comments, or the text's end.
 #[tactic(auto, using(crate::proofs::WalkSteps::walk_comment, crate::proofs::WalkSteps::walk_blank))]
 fn word_start(text: &[u8], start: usize) -> usize
     requires { start ≤ length text.now }
@@ -103,7 +105,7 @@ fn word_start(text: &[u8], start: usize) -> usize
 
 /// The word that begins at `start` and isn't quoted.
 fn plain_word(text: &[u8], start: usize) -> Word
-    requires short { length text.now ≤ 134217728 }
+    requires short { length text.now ≤ MAX_DEF_BYTES }
     requires within { start < length text.now }
     requires begins { begins_word (slice_index text.now start) ≡ true }
     requires plain { (slice_index text.now start == 34) ≡ false }
@@ -120,7 +122,7 @@ fn plain_word(text: &[u8], start: usize) -> Word
 
 /// The quoted word that begins at `start`.
 fn quoted_word(text: &[u8], start: usize) -> Option<Word>
-    requires short { length text.now ≤ 134217728 }
+    requires short { length text.now ≤ MAX_DEF_BYTES }
     requires within { start < length text.now }
     requires quote { (slice_index text.now start == 34) ≡ true }
     ensures order { IfSome result (λ w. IsWithin w start (length text.now)) }
@@ -140,7 +142,7 @@ fn quoted_word(text: &[u8], start: usize) -> Option<Word>
 impl<'a> Words<'a> {
     /// A walk over the words of a text of at most 134,217,728 bytes.
     pub fn new(text: &'a [u8]) -> Words<'a>
-        requires { length text.now ≤ 134217728 }
+        requires { length text.now ≤ MAX_DEF_BYTES }
         ensures { result ≡ record { text = text.now; at = 0 } }
     {
         Words { text, at: 0 }

@@ -61,7 +61,7 @@ module _ {T E F : Type 0} (entries : T → List (ℕ × E)) (fixed : T → F) (s
     pub grown : Grows passes (entries start) (entries value)
     pub each : (k : ℕ) (p : Returned E) → get_elem? v.returned k ≡ some p → IsPrefix p.seen (entries value) × (entries_by p.number (entries value) ≡ p.own)
 
-  -- the pass n is the last one, or was handed back
+  -- the pass n is the last one, or was returned
   abbrev IsNamed : ℕ → View E F → Type 0
   IsNamed n v = (n ≡ v.number) ⊎ ((k : ℕ) × (p : Returned E) × (get_elem? v.returned k ≡ some p) × (n ≡ p.number))
 

@@ -12,7 +12,7 @@ use Rattle.eco_turn.specs.declared.view.View.{View}
 use Rattle.eco_turn.specs.declared.view.Stage.{Stage}
 use Rattle.eco_turn.specs.declared.view.Stage.TheVariants.{Outside, Waiting, Inside}
 use Rattle.eco_turn.specs.View.{tickets, values, number_of, stage_of, ticket_count, value_count}
-use Rattle.eco_turn.specs.Rule.{IsSeated, AreApart, IsHomeOrHeld, IsRuled}
+use Rattle.eco_turn.specs.Rule.{IsSeated, HaveOwnTickets, IsHomeOrHeld, IsRuled}
 use Rattle.eco_turn.proofs.Lists.{map_kept, each_set}
 
 -- a seat with the value has a ticket
@@ -38,8 +38,8 @@ module _ {E F : Type 0} where
   waiting : (vs : List (View E F)) → sum_by ticket_count vs ≤ length vs
   waiting vs = let h = sum_by-le ticket_count 1 vs (λ k d l. one_ticket (get_or vs k d).stage) in omega (arith, h)
 
-  pub apart_set : (vs : List (View E F)) (id : ℕ) (w : View E F) → AreApart vs
-      → (0 < ticket_count w → (j : ℕ) (d : View E F) → j ≢ id → get_elem? vs j ≡ some d → 0 < ticket_count d → d.ticket ≢ w.ticket) → AreApart (set vs id w)
+  pub apart_set : (vs : List (View E F)) (id : ℕ) (w : View E F) → HaveOwnTickets vs
+      → (0 < ticket_count w → (j : ℕ) (d : View E F) → j ≢ id → get_elem? vs j ≡ some d → 0 < ticket_count d → d.ticket ≢ w.ticket) → HaveOwnTickets (set vs id w)
   apart_set vs id w old new i j x y ex ey =
       each_set (λ (i : ℕ) (x : View E F). (j : ℕ) (y : View E F) → get_elem? (set vs id w) j ≡ some y → 0 < ticket_count x → 0 < ticket_count y → x.ticket ≡ y.ticket → i ≡ j) vs id w
       (λ j y ey. each_set (λ (j : ℕ) (y : View E F). 0 < ticket_count w → 0 < ticket_count y → w.ticket ≡ y.ticket → id ≡ j) vs id w (λ _ _ _. refl) (λ j d ne at a b t. absurd (new a j d ne at b (sym t))) j y ey)
@@ -83,7 +83,7 @@ module _ {T E F : Type 0} (entries : T → List (ℕ × E)) (fixed : T → F) (s
       → length words' ≡ 3 → length homes' ≡ 1 → get_or words' 0 0 ≡ drawn' % 2 ^ 64 → get_or words' 1 0 ≡ served' % 2 ^ 64 → get_or words' 2 0 ≡ get_or s.words 2 0
       → IsSeated (fixed start) r.history (map number_of s.views) served' drawn' id w
       → ((j : ℕ) (d : View E F) → j ≢ id → get_elem? s.views j ≡ some d → 0 < ticket_count d → (served' ≤ d.ticket) × (d.ticket < drawn') × (0 < value_count d → d.ticket ≡ served'))
-      → AreApart (set s.views id w) → served' + sum_by ticket_count (set s.views id w) ≡ drawn'
+      → HaveOwnTickets (set s.views id w) → served' + sum_by ticket_count (set s.views id w) ≡ drawn'
       → IsHomeOrHeld entries fixed (fixed start) r.history record { words = words'; homes = homes'; views = set s.views id w }
       → Rule record { words = words'; homes = homes'; views = set s.views id w }
   moves s r id v w served' drawn' words' homes' at same three one drawn_word served_word count mine others apart counted lies =

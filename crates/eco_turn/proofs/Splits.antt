@@ -13,7 +13,7 @@ use Rattle.eco_turn.specs.declared.view.Returned.{Returned}
 use Rattle.eco_turn.specs.declared.view.Stage.TheVariants.{Outside, Inside}
 use Rattle.eco_turn.specs.Entries.{entries_by}
 use Rattle.eco_turn.specs.View.{tickets, values, number_of, stage_of, ticket_count}
-use Rattle.eco_turn.specs.Rule.{IsReturned, IsSeated, AreApart, IsRuled}
+use Rattle.eco_turn.specs.Rule.{IsReturned, IsSeated, HaveOwnTickets, IsRuled}
 use Rattle.eco_turn.specs.Plays.{left_view, right_view, returned_of, joined_view, spent_view}
 use Rattle.eco_turn.proofs.Lists.{at_below, sum_at, map_kept, each_set, at_end, at_cons}
 use Rattle.eco_turn.proofs.Moves.{not_inside, apart_set, holder_set}
@@ -23,7 +23,7 @@ module _ {E : Type 0} where
   returned_on h ns n p g = record { spent = at_longer ns (n ∷ []) p.number 0 g.spent; seen = g.seen; own = g.own }
 
 module _ {E F : Type 0} where
-  apart_snoc : (vs : List (View E F)) (o : View E F) → o.stage ≡ Outside → AreApart vs → AreApart (vs ++ o ∷ [])
+  apart_snoc : (vs : List (View E F)) (o : View E F) → o.stage ≡ Outside → HaveOwnTickets vs → HaveOwnTickets (vs ++ o ∷ [])
   apart_snoc vs o out old i j x y ex ey a b t =
       let back : (k : ℕ) (z : View E F) → get_elem? (vs ++ o ∷ []) k ≡ some z → 0 < ticket_count z → get_elem? vs k ≡ some z = λ k z e l.
       ⊎_elim (λ h. h) (λ (q : (k ≡ length vs) × (o ≡ z)). let st : ticket_count o ≡ ticket_count z = ap ticket_count q.1 in let no : ticket_count o ≡ 0 = ap tickets out in absurd (omega arith)) (at_end vs o z k e) in

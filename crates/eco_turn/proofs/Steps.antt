@@ -16,7 +16,7 @@ use Rattle.eco_turn.specs.declared.view.Stage.TheVariants.{Outside, Waiting, Ins
 use Rattle.eco_turn.specs.Entries.{entries_by, Adds}
 use Rattle.eco_turn.specs.View.{tickets, values, number_of, stage_of, ticket_count, value_count}
 use Rattle.eco_turn.specs.Rule.{IsReturned, IsSeated, IsRuled}
-use Rattle.eco_turn.specs.Plays.{Draws, PassesOn, Looks, noted_view, Notes}
+use Rattle.eco_turn.specs.Plays.{DrawsTicket, PassesOn, SeesServed, noted_view, NotesLength}
 use Rattle.eco_turn.proofs.Lists.{at_below, at_one, sum_at, map_kept, each_set, prefix_self, prefix_trans, at_unmap, one_carried}
 use Rattle.eco_turn.proofs.Added.{by_mine, by_other, grows_on}
 use Rattle.eco_turn.proofs.Moves.{has_ticket, not_inside, next_word, apart_set, same_ticket, moves, lies_on}
@@ -34,7 +34,7 @@ module _ {T E F : Type 0} (entries : T → List (ℕ × E)) (fixed : T → F) (s
   abbrev Homes : Type 0
   Homes = List (maybe.Option (Option T))
 
-  pub draws_ok : (slots id : ℕ) (m : M) → m.0.stage ≡ Outside → 0 < m.0.number → Allows Rule slots id m 0 (λ n. (n + 1) % 2 ^ 64) (Draws (step slots 0 1 0 none) m)
+  pub draws_ok : (slots id : ℕ) (m : M) → m.0.stage ≡ Outside → 0 < m.0.number → Allows Rule slots id m 0 (λ n. (n + 1) % 2 ^ 64) (DrawsTicket (step slots 0 1 0 none) m)
   draws_ok slots id m out named s r deep at fits =
       let v : View E F = m.0 in let t : ℕ = r.drawn in let w : View E F = record v { stage = Waiting; ticket = t } in let x : ℕ = (get_or s.words 0 0 + 1) % 2 ^ 64 in
       let ok = r.each id v at in let three = r.three in let counted = r.counted in let sum = sum_at ticket_count s.views id v w at in
@@ -89,7 +89,7 @@ module _ {T E F : Type 0} (entries : T → List (ℕ × E)) (fixed : T → F) (s
       let one = at_one s.views id d v (subst (λ k. get_elem? s.views k ≡ some d) same t.1) at in
       let st : value_count d ≡ value_count v = ap value_count one in let z : value_count v ≡ 0 = ap values wait in omega arith
 
-  pub looks_ok : (slots id : ℕ) (m : M) → m.0.stage ≡ Waiting → 0 < m.0.number → Allows Rule slots id m 1 (λ n. n) (Looks entries fixed (step slots 1 0 0 none) m)
+  pub looks_ok : (slots id : ℕ) (m : M) → m.0.stage ≡ Waiting → 0 < m.0.number → Allows Rule slots id m 1 (λ n. n) (SeesServed entries fixed (step slots 1 0 0 none) m)
   looks_ok slots id m wait named s r deep at fits =
       let v : View E F = m.0 in let n : ℕ = get_or s.words 1 0 in let same = sym (set-get_or s.words 1 0) in
       let ok = r.each id v at in let mine = ok.named named in let b₀ : ticket_count v ≡ 1 = ap tickets wait in
@@ -125,7 +125,7 @@ module _ {T E F : Type 0} (entries : T → List (ℕ × E)) (fixed : T → F) (s
       ))
 
   pub notes_ok : (slots id : ℕ) (m : M) (y : T) (new : ℕ) → m.0.stage ≡ Inside → 0 < m.0.number → m.1 ≡ (0, Some y) ∷ [] → Adds m.0.number m.0.seen (entries y) → new ≡ length (entries y)
-      → Allows Rule slots id m 2 (λ _. new) (Notes entries (step slots 2 new 0 none) m)
+      → Allows Rule slots id m 2 (λ _. new) (NotesLength entries (step slots 2 new 0 none) m)
   notes_ok slots id m y new has named carried adds count s r deep at fits =
       let v : View E F = m.0 in let h : List (ℕ × E) = r.history in let h' : List (ℕ × E) = entries y in let w : View E F = noted_view entries v y in let ok = r.each id v at in let mine = ok.named named in let f = fixed start in
       let b₀ : value_count v ≡ 1 = ap values has in let b₁ : ticket_count v ≡ 1 = ap tickets has in let below = at_below s.views id v at in let few₀ = r.few.0 in let mine₀ = mine.0 in

@@ -9,7 +9,7 @@ use Rattle.std.specs.List.{sum_by}
 use Rattle.std.proofs.lemmas.List.Sums.{sum_by-cons}
 use Rattle.eco_turn.specs.declared.view.View.{View}
 use Rattle.eco_turn.specs.View.{ticket_count}
-use Rattle.eco_turn.specs.Rule.{AreApart, IsRuled}
+use Rattle.eco_turn.specs.Rule.{HaveOwnTickets, IsRuled}
 use Rattle.eco_turn.proofs.Moves.{one_ticket}
 
 module _ {E F : Type 0} where
@@ -28,7 +28,7 @@ module _ {E F : Type 0} where
   tail_lacks : (v : View E F) (vs : List (View E F)) (n : ℕ) → LacksTicket (v ∷ vs) n → LacksTicket vs n
   tail_lacks v vs n lacks j w at = lacks (suc j) w at
 
-  tail_apart : (v : View E F) (vs : List (View E F)) → AreApart (v ∷ vs) → AreApart vs
+  tail_apart : (v : View E F) (vs : List (View E F)) → HaveOwnTickets (v ∷ vs) → HaveOwnTickets vs
   tail_apart v vs apart i j x y ex ey a b t = let e = apart (suc i) (suc j) x y ex ey a b t in omega arith
 
   -- one of the two
@@ -51,7 +51,7 @@ module _ {E F : Type 0} where
       let head : below (n + 1) v ≡ below n v = dite (ℕ_discrete (ticket_count v) 0) (λ no. omega arith) (λ yes. let other = lacks 0 v refl (omega arith) in omega arith) in
       omega arith
 
-  one_more : (vs : List (View E F)) (n : ℕ) → AreApart vs → sum_by (below (n + 1)) vs ≤ sum_by (below n) vs + 1
+  one_more : (vs : List (View E F)) (n : ℕ) → HaveOwnTickets vs → sum_by (below (n + 1)) vs ≤ sum_by (below n) vs + 1
   one_more [] n apart = omega arith
   one_more (v ∷ vs) n apart =
       let most = one_ticket v.stage in let c = sum_by-cons (below (n + 1)) v vs in let c' = sum_by-cons (below n) v vs in
@@ -63,11 +63,11 @@ module _ {E F : Type 0} where
       (has_or_lacks vs n)
 
   -- from the ticket low on there are at most as many as numbers, and one fewer past a number that no seat has
-  at_most : (vs : List (View E F)) (low k : ℕ) → AreApart vs → sum_by (below low) vs ≡ 0 → sum_by (below (low + k)) vs ≤ k
+  at_most : (vs : List (View E F)) (low k : ℕ) → HaveOwnTickets vs → sum_by (below low) vs ≡ 0 → sum_by (below (low + k)) vs ≤ k
   at_most vs low zero apart nothing = let e : sum_by (below (low + 0)) vs ≡ sum_by (below low) vs = ap (λ m. sum_by (below m) vs) (let z : low + 0 ≡ low = omega arith in z) in omega arith
   at_most vs low (suc k) apart nothing = let h = at_most vs low k apart nothing in let e : sum_by (below (low + suc k)) vs ≡ sum_by (below (low + k + 1)) vs = ap (λ m. sum_by (below m) vs) (let z : low + suc k ≡ low + k + 1 = omega arith in z) in let m = one_more vs (low + k) apart in omega arith
 
-  one_less : (vs : List (View E F)) (low i k : ℕ) → AreApart vs → sum_by (below low) vs ≡ 0 → LacksTicket vs (low + i) → sum_by (below (low + (i + 1 + k))) vs ≤ i + k
+  one_less : (vs : List (View E F)) (low i k : ℕ) → HaveOwnTickets vs → sum_by (below low) vs ≡ 0 → LacksTicket vs (low + i) → sum_by (below (low + (i + 1 + k))) vs ≤ i + k
   one_less vs low i zero apart nothing lacks = let h = at_most vs low i apart nothing in let e : sum_by (below (low + (i + 1 + 0))) vs ≡ sum_by (below (low + i + 1)) vs = ap (λ m. sum_by (below m) vs) (let z : low + (i + 1 + 0) ≡ low + i + 1 = omega arith in z) in let s = same_below vs (low + i) lacks in omega arith
   one_less vs low i (suc k) apart nothing lacks = let h = one_less vs low i k apart nothing lacks in let e : sum_by (below (low + (i + 1 + suc k))) vs ≡ sum_by (below (low + (i + 1 + k) + 1)) vs = ap (λ m. sum_by (below m) vs) (let z : low + (i + 1 + suc k) ≡ low + (i + 1 + k) + 1 = omega arith in z) in let m = one_more vs (low + (i + 1 + k)) apart in omega arith
 

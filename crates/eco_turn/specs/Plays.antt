@@ -1,4 +1,4 @@
--- What each step tells, and how views are split and joined.
+-- What a seat learns from each step, and how views are split and joined.
 use Rattle.std.specs.Prelude.{◌≡◌, ◌≢◌, ℕ, ◌+◌, ◌%◌, ◌^◌, List, [], ◌∷◌, ◌++◌, length, drop, Option, Some, None}
 use mathlib.Core.List.{IsPrefix}
 use Rattle.atomic_table.specs.Table.{Step, Me}
@@ -9,8 +9,8 @@ use Rattle.eco_turn.specs.Entries.{entries_by}
 
 module _ {E F : Type 0} where
   -- the seat has a ticket, whose remainder is the number found
-  abbrev pub Draws : {S : Type 0} → Step S → Me S (View E F) → ℕ → Me S (View E F) → Type 0
-  Draws st m found m' = (m' ≡ (record m.0 { stage = Waiting; ticket = m'.0.ticket }, m.1))
+  abbrev pub DrawsTicket : {S : Type 0} → Step S → Me S (View E F) → ℕ → Me S (View E F) → Type 0
+  DrawsTicket st m found m' = (m' ≡ (record m.0 { stage = Waiting; ticket = m'.0.ticket }, m.1))
       × (m'.0.ticket % 2 ^ 64 ≡ found)
 
   -- the seat has neither ticket nor slot
@@ -43,8 +43,8 @@ module _ {T E F : Type 0} (entries : T → List (ℕ × E)) (fixed : T → F) wh
     pub fixed_is : m.0.fixed ≡ Some (fixed x)
 
   -- where the number found is the seat's ticket, it has the slot, and else nothing changes
-  abbrev pub Looks : Step (Option T) → Me (Option T) (View E F) → ℕ → Me (Option T) (View E F) → Type 0
-  Looks st m found m' = (found ≢ m.0.ticket % 2 ^ 64 → m' ≡ m)
+  abbrev pub SeesServed : Step (Option T) → Me (Option T) (View E F) → ℕ → Me (Option T) (View E F) → Type 0
+  SeesServed st m found m' = (found ≢ m.0.ticket % 2 ^ 64 → m' ≡ m)
       × (found ≡ m.0.ticket % 2 ^ 64 → (x : T) × Took m x m')
 
 module _ {T E F : Type 0} (entries : T → List (ℕ × E)) where
@@ -53,6 +53,6 @@ module _ {T E F : Type 0} (entries : T → List (ℕ × E)) where
   noted_view v y = record v { seen = entries y; own = v.own ++ drop (length v.seen) (entries y) }
 
   -- the number found is the length of the list that the seat had found, and the list of the value in its slot is the history
-  abbrev pub Notes : Step (Option T) → Me (Option T) (View E F) → ℕ → Me (Option T) (View E F) → Type 0
-  Notes st m found m' = (found ≡ length m.0.seen)
+  abbrev pub NotesLength : Step (Option T) → Me (Option T) (View E F) → ℕ → Me (Option T) (View E F) → Type 0
+  NotesLength st m found m' = (found ≡ length m.0.seen)
       × ((y : T) → m.1 ≡ (0, Some y) ∷ [] → m' ≡ (noted_view m.0 y, m.1))

@@ -1,6 +1,6 @@
 -- The rule of the table.
 -- Word 0 is the next ticket, word 1 the ticket that is served, word 2 the length of the history. The one slot has the value.
--- Tickets are counted since the turn was made, and the words have their remainders at 2 ^ 64. The tickets at hand are apart, lie from `served` up to but without `drawn`, and are as many as these numbers. So each of these is at hand, as `at_hand` of proofs/Tickets.antt shows.
+-- Tickets are counted since the turn was made, and the words hold them modulo 2 ^ 64. The tickets that seats hold are distinct, at least `served` and below `drawn`, and as many as the numbers in that range. So a seat holds each number of the range, as `at_hand` of proofs/Tickets.antt shows.
 use Rattle.std.specs.Prelude.{◌≡◌, ℕ, ◌+◌, ◌%◌, ◌^◌, ◌<◌, ◌≤◌, ◌⊎◌, List, [], map, length, slice_index, sum_by, Option, Some}
 use mathlib.Core.Option.{some}
 use mathlib.Core.List.{IsPrefix}
@@ -12,7 +12,7 @@ use Rattle.eco_turn.specs.declared.view.Stage.TheVariants.{Outside, Inside}
 use Rattle.eco_turn.specs.Entries.{entries_by, Grows}
 use Rattle.eco_turn.specs.View.{number_of, stage_of, ticket_count, value_count}
 
--- a pass that was handed back: its seat has no number any more
+-- a pass that was returned: its seat has no number any more
 pub record IsReturned {E : Type 0} (history : List (ℕ × E)) (numbers : List ℕ) (p : Returned E) : Type 0 where
   pub spent : get_elem? numbers p.number ≡ some 0
   pub seen : IsPrefix p.seen history
@@ -34,8 +34,8 @@ module _ {E F : Type 0} where
     pub returns : (k : ℕ) (p : Returned E) → get_elem? v.returned k ≡ some p → IsReturned history numbers p
 
 -- no two seats have one ticket
-abbrev pub AreApart : {E F : Type 0} → List (View E F) → Type 0
-AreApart {E} {F} vs = (i j : ℕ) (v w : View E F) → get_elem? vs i ≡ some v → get_elem? vs j ≡ some w
+abbrev pub HaveOwnTickets : {E F : Type 0} → List (View E F) → Type 0
+HaveOwnTickets {E} {F} vs = (i j : ℕ) (v w : View E F) → get_elem? vs i ≡ some v → get_elem? vs j ≡ some w
     → 0 < ticket_count v → 0 < ticket_count w → v.ticket ≡ w.ticket → i ≡ j
 
 module _ {T E F : Type 0} (entries : T → List (ℕ × E)) (fixed : T → F) where
@@ -57,7 +57,7 @@ module _ {T E F : Type 0} (entries : T → List (ℕ × E)) (fixed : T → F) wh
     pub count_is : slice_index s.words 2 ≡ length history
     pub few : (length s.views ≤ passes + 1) × (passes ≤ 64)
     pub each : (j : ℕ) (v : View E F) → get_elem? s.views j ≡ some v → IsSeated (fixed start) history (map number_of s.views) served drawn j v
-    pub apart : AreApart s.views
+    pub apart : HaveOwnTickets s.views
     pub counted : served + sum_by ticket_count s.views ≡ drawn
     -- the history is the first list, with entries of passes, and a pass that isn't made yet has none
     pub grown : Grows passes (entries start) history

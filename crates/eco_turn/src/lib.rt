@@ -22,7 +22,6 @@
 
 mod held;
 mod kept;
-mod memory;
 mod pass;
 mod plays;
 #[cfg(test)]
@@ -30,8 +29,8 @@ mod tests;
 mod turn;
 mod view;
 
+pub use eco_common::Memory;
 pub use held::Held;
 pub use kept::Kept;
-pub use memory::Memory;
 pub use pass::Pass;
 pub use turn::Turn;

@@ -1,5 +1,5 @@
-//! What each step on a word tells, and how seats are split and joined.
-ghost use Rattle.eco_turn.specs.Plays.{Draws, Looks, Notes, PassesOn, returned_of, left_view, right_view, joined_view, spent_view};
+//! What a seat learns from each step on a word, and how seats are split and joined.
+ghost use Rattle.eco_turn.specs.Plays.{DrawsTicket, SeesServed, NotesLength, PassesOn, returned_of, left_view, right_view, joined_view, spent_view};
 
 use crate::kept::Kept;
 use crate::view::View;
@@ -9,7 +9,7 @@ use std::marker::PhantomData;
 pub(crate) struct Draw;
 
 impl<S, E, F> Play<S, View<E, F>> for Draw {
-    ghost then = { Draws };
+    ghost then = { DrawsTicket };
 }
 
 pub(crate) struct Look<T> {
@@ -17,7 +17,7 @@ pub(crate) struct Look<T> {
 }
 
 impl<T: Kept> Play<Option<T>, View<T::Entry, T::Fixed>> for Look<T> {
-    ghost then = { Looks T.entries T.fixed };
+    ghost then = { SeesServed T.entries T.fixed };
 }
 
 pub(crate) struct Note<T> {
@@ -25,7 +25,7 @@ pub(crate) struct Note<T> {
 }
 
 impl<T: Kept> Play<Option<T>, View<T::Entry, T::Fixed>> for Note<T> {
-    ghost then = { Notes T.entries };
+    ghost then = { NotesLength T.entries };
 }
 
 pub(crate) struct PassOn;

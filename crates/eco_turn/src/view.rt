@@ -1,4 +1,4 @@
-//! What a seat knows, and the rule of the table. No value of these types is made but a `Start`.
+//! What a seat knows, and the rule of the table. The types other than `Start` exist in proofs alone.
 use crate::kept::Kept;
 use atomic_table::TableRule;
 use std::collections::LinkedList;
@@ -14,7 +14,7 @@ pub enum Stage {
     Inside,
 }
 
-/// What is kept of a pass that was handed back.
+/// What is kept of a pass that was returned.
 pub struct Returned<E> {
     pub number: u64,
     pub seen: LinkedList<(u64, E)>,
@@ -41,7 +41,7 @@ pub struct View<E, F> {
     pub fixed: Option<F>,
 }
 
-/// What the table is told when it is made.
+/// What the table is made with.
 #[derive(Drop)]
 pub struct Start<T> {
     pub first: Snapshot<T>,

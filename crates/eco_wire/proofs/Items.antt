@@ -28,7 +28,7 @@ ends_at_comma xs = ends_by xs _ refl
 take-all : (n : ℕ) (xs : List ℕ) → length xs ≡ n → take n xs ≡ xs
 take-all n xs same = ap (λ m. take m xs) (sym same) ∙ take-length xs
 
--- where the first item isn't the word, those behind its comma decide
+-- where the first item isn't the word, those after its comma decide
 pub close_behind : (rest back value : List ℕ) (end : ℕ) → EndsAt rest (Some end) → back ≡ drop end rest
     → is_close (take end rest) ≡ false → lists_close rest ≡ lists_close value
     → lists_close (take (length back - 1) (drop 1 back)) ≡ lists_close value

@@ -6,7 +6,7 @@ use Rattle.eco_wire.specs.Numbers.{number_of_digits}
 use Rattle.eco_wire.specs.declared.fields.ContentLength.{ContentLength}
 use Rattle.eco_wire.specs.declared.fields.ContentLength.TheVariants.{Missing, Bytes, Unreadable}
 
--- what the values say behind others that said this much
+-- what the values say after others that said this much
 abbrev pub stated_with : ContentLength → List (List ℕ) → ContentLength
 stated_with Missing values = content_length_of values
 stated_with (Bytes n) [] = Bytes n

@@ -7,3 +7,4 @@ pub mod Matching
 pub mod OneRoute
 pub mod Seeking
 pub mod Streaming
+pub mod Bounds

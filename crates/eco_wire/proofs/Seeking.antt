@@ -58,12 +58,12 @@ suc-sub-one : (n : ℕ) → suc n - 1 ≡ n
 suc-sub-one n = omega arith
 
 module _ {K : Type 0} where
-  -- the rows behind these bytes
+  -- the rows after these bytes
   abbrev pub steps : List ℕ → RowsOf K → RowsOf K
   steps [] rs = rs
   steps (b ∷ bs) rs = steps bs (step b rs)
 
-  -- what the rows behind some bytes find, the rows find behind those bytes
+  -- what the rows after some bytes find, the rows find after those bytes
   pub along : (bs : List ℕ) (rs : RowsOf K) (path : List ℕ) (k : K)
       → seek 0 (steps bs rs) path ≡ Some k → seek 0 rs (bs ++ path) ≡ Some k
   unfolding seek
@@ -139,7 +139,7 @@ module _ {K : Type 0} where
           cond (ltb 0 (length suffix)) (length seg - length suffix, with_suffix suffix rows)
           (cond (has_slash (name ++ slash ∷ rest)) (0, []) (length (name ++ slash ∷ rest), rows))
 
-  -- a parameter takes a segment up to what stands behind it
+  -- a parameter takes a segment up to what stands after it
   pub at_front : (name rest : List ℕ) (k : K) → IsSegment name → get_or name 0 0 < 256
       → seek 0 ((slash ∷ rest, k) ∷ []) (slash ∷ rest) ≡ Some k
       → seek 0 ((param_token ∷ slash ∷ rest, k) ∷ []) (name ++ slash ∷ rest) ≡ Some k

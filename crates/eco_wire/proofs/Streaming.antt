@@ -231,7 +231,7 @@ stop_stays kept rest closed stop = absurd stop
 stop_stays kept rest (refused status) stop = readings_stay kept (concat rest) (broken status) tt stop
 stop_stays kept rest full stop = absurd stop
 
-on_none : {A B : Type 0} (Q : End → Type 0) (e : Option End) → (A → B) → MatchOption e A Q → MatchOption e B Q
+pub on_none : {A B : Type 0} (Q : End → Type 0) (e : Option End) → (A → B) → MatchOption e A Q → MatchOption e B Q
 on_none Q None go a = go a
 on_none Q (Some last) go q = q
 
@@ -275,7 +275,7 @@ stops_alike bytes (ended a) full x y = absurd y
 stops_alike bytes (refused s) closed x y = absurd y
 stops_alike bytes (refused s) full x y = absurd y
 
-stop_or_request : (bytes : List ℕ) (a : End) (m : Message) → Stops bytes a → IsNext bytes (whole m) → ⊥
+pub stop_or_request : (bytes : List ℕ) (a : End) (m : Message) → Stops bytes a → IsNext bytes (whole m) → ⊥
 stop_or_request bytes (ended left) m (x, is) y =
     ⊎_elim (λ same. cc) (λ free. free.2) (readings_are_one bytes unfinished (whole m) x y)
 stop_or_request bytes closed m x y = x
@@ -283,7 +283,7 @@ stop_or_request bytes (refused s) m x y =
     ⊎_elim (λ same. cc) (λ free. free.2) (readings_are_one bytes (broken s) (whole m) x y)
 stop_or_request bytes full m x y = x
 
-same_message : (bytes : List ℕ) (m n : Message) → IsNext bytes (whole m) → IsNext bytes (whole n) → m ≡ n
+pub same_message : (bytes : List ℕ) (m n : Message) → IsNext bytes (whole m) → IsNext bytes (whole n) → m ≡ n
 same_message bytes m n x y = ⊎_elim (λ same. cc) (λ free. absurd free.1) (readings_are_one bytes (whole m) (whole n) x y)
 
 alike_self : (e : End) → EndAlike e e

@@ -5,6 +5,7 @@ use Rattle.httparse.specs.Spans.{span_bytes, header_bytes, name_and_value, IsWit
 use Rattle.httparse.specs.declared.spans.HeaderSpan.{HeaderSpan}
 use Rattle.httparse.specs.declared.spans.RequestSpans.{RequestSpans}
 use Rattle.eco_wire.specs.Lines.{Line, has_line, values_of, content_length_of, asks_to_close}
+use Rattle.eco_wire.specs.declared.limits.TheConstants.{BODY_BYTES}
 use Rattle.eco_wire.specs.declared.fields.ContentLength.{ContentLength}
 use Rattle.eco_wire.specs.declared.fields.ContentLength.TheVariants.{Missing, Bytes, Unreadable}
 use Rattle.eco_wire.specs.declared.request.Method.{Method}
@@ -32,11 +33,11 @@ pub record Head : Type 0 where
   pub lines : List Line
   pub size : ℕ
 
--- the method of this name, byte by byte
+-- the method of this name, byte by byte (RFC 9110, section 9.1)
 abbrev pub method_of : List ℕ → Method
 method_of name = if bytes_eq name (codes "GET") then Get else if bytes_eq name (codes "POST") then Post else Other
 
--- a body must be announced
+-- a body must be announced (RFC 9112, section 6.3)
 abbrev pub is_post : Method → Bool
 is_post Get = false
 is_post Post = true
@@ -52,34 +53,34 @@ head_of h = record {
   size = length (print_request h);
 }
 
--- version 1.0, or a Connection line that says so, ends the link
+-- version 1.0, or a Connection line that says so, ends the link (RFC 9112, sections 9.3 and 9.6)
 abbrev pub closes : Head → Bool
 closes h = h.minor == 0 || asks_to_close h.lines
 
--- a body of n bytes: at most 131,072, and all of them behind the head
+-- a body of n bytes: as many as a body may have, and all of them after the head (RFC 9112, section 6.3)
 abbrev pub with_body : Head → ℕ → List ℕ → Reading
-with_body h n behind =
-    if nat_lt 131072 n then broken 413
-    else if nat_lt (length behind) n then unfinished
+with_body h n rest =
+    if nat_lt BODY_BYTES n then broken 413
+    else if nat_lt (length rest) n then unfinished
     else whole (record {
       method = method_of h.method;
       target = h.target;
-      body = take n behind;
+      body = take n rest;
       close = closes h;
       used = h.size + n;
     })
 
--- the body's length: one Content-Length that can be read, which a POST must have
+-- the body's length: one Content-Length that can be read (RFC 9110, section 8.6), which a POST must have
 abbrev pub with_length : Head → ContentLength → List ℕ → Reading
-with_length h Unreadable behind = broken 400
-with_length h Missing behind = if is_post (method_of h.method) then broken 411 else with_body h 0 behind
-with_length h (Bytes n) behind = with_body h n behind
+with_length h Unreadable rest = broken 400
+with_length h Missing rest = if is_post (method_of h.method) then broken 411 else with_body h 0 rest
+with_length h (Bytes n) rest = with_body h n rest
 
--- the answer to a whole head with these bytes behind it: transfer codings aren't read
+-- the answer to a whole head with these bytes after it: transfer codings aren't read (RFC 9112, section 6.1)
 abbrev pub answer_to : Head → List ℕ → Reading
-answer_to h behind =
+answer_to h rest =
     if has_line (codes "transfer-encoding") h.lines then broken 501
-    else with_length h (content_length_of (values_of (codes "content-length") h.lines)) behind
+    else with_length h (content_length_of (values_of (codes "content-length") h.lines)) rest
 
 -- the head that spans of the bytes show
 abbrev pub head_at : List ℕ → RequestSpans → List HeaderSpan → Head

@@ -6,3 +6,4 @@ pub mod Routes
 pub mod Streams
 pub mod Table
 pub mod Numbers
+pub mod Bounds

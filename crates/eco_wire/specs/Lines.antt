@@ -12,7 +12,7 @@ use Rattle.eco_wire.specs.declared.fields.ContentLength.TheVariants.{Missing, By
 abbrev pub Line : Type 0
 Line = List ℕ × List ℕ
 
--- the line has this name, in any case of letters
+-- the line has this name, in any case of letters (RFC 9110, section 5.1)
 abbrev pub is_named : List ℕ → Line → Bool
 is_named name line = str_eq_ignore_ascii_case line.0 name
 
@@ -29,7 +29,7 @@ abbrev pub stated_by : Option ℕ → ContentLength
 stated_by (Some n) = Bytes n
 stated_by None = Unreadable
 
--- what the values of the Content-Length lines say: there is one at most, of 1 to 20 digits
+-- what the values of the Content-Length lines say: there is one at most, of 1 to 20 digits (RFC 9110, section 8.6)
 abbrev pub content_length_of : List (List ℕ) → ContentLength
 content_length_of [] = Missing
 content_length_of (text ∷ []) = stated_by (number_of_digits text)
@@ -39,7 +39,7 @@ content_length_of (_ ∷ _ ∷ _) = Unreadable
 abbrev pub is_close : List ℕ → Bool
 is_close item = str_eq_ignore_ascii_case (trim_ows item) (codes "close")
 
--- the items of a list, between commas
+-- the items of a list, between commas (RFC 9110, section 5.6.1)
 abbrev pub items_of : List ℕ → List (List ℕ)
 items_of value = slice_split (λ b. b == comma) value
 

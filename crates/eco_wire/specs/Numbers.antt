@@ -4,7 +4,7 @@ use Rattle.std.specs.Char.{is_ascii_digit}
 use Rattle.std.specs.List.{list_all}
 use Rattle.std.specs.Str.Parse.{digits_value}
 
--- 1 to 20 digits, and nothing else
+-- 1 to 20 digits, and nothing else: the form of Content-Length (RFC 9110, section 8.6), with a limit of 20 digits
 abbrev pub are_digits : List ℕ → Bool
 are_digits text = nat_lt 0 (length text) && nat_le (length text) 20 && list_all is_ascii_digit text
 

@@ -1,44 +1,45 @@
--- The next request of a link.
+-- The next request of a link (RFC 9112, section 2).
 use Rattle.std.specs.Prelude.{◌≡◌, ℕ, ◌+◌, ◌<◌, ◌≤◌, ◌==◌, ◌⊎◌, List, length, take, drop, count_by, ⊤}
 use Rattle.httparse.specs.Ascii.{line_feed}
 use Rattle.httparse.specs.Grammar.{RequestHead, print_request, ReadsRequest, HasNoRequest, NeverHasRequest, MayBecomeRequest}
 use Rattle.httparse.specs.Spans.{RequestOverflows}
 use Rattle.eco_wire.specs.Heads.{Reading, unfinished, whole, broken, head_of, answer_to}
+use Rattle.eco_wire.specs.declared.limits.TheConstants.{HEAD_BYTES, HEAD_LINES}
 use Rattle.eco_wire.specs.declared.request.Span.{Span}
 use Rattle.eco_wire.specs.declared.request.Next.{Next}
 use Rattle.eco_wire.specs.declared.request.Next.TheVariants.{NeedMore, Request, Broken}
 
--- the bytes begin with the head h, which has at most 16,384 bytes and 64 header lines, and then come those behind it
-pub record BeginsWith (bytes : List ℕ) (h : RequestHead) (behind : List ℕ) : Type 0 where
-  pub reads : ReadsRequest bytes h behind
-  pub size : length (print_request h) ≤ 16384
-  pub lines : length h.fields ≤ 64
+-- the bytes begin with the head h, which keeps the limits of a head, and then come those after it
+pub record BeginsWith (bytes : List ℕ) (h : RequestHead) (rest : List ℕ) : Type 0 where
+  pub reads : ReadsRequest bytes h rest
+  pub size : length (print_request h) ≤ HEAD_BYTES
+  pub lines : length h.fields ≤ HEAD_LINES
 
 -- the bytes begin with no such head
 abbrev pub HasNoHead : List ℕ → Type 0
-HasNoHead bytes = (h : RequestHead) (behind : List ℕ) → ¬ (BeginsWith bytes h behind)
+HasNoHead bytes = (h : RequestHead) (rest : List ℕ) → ¬ (BeginsWith bytes h rest)
 
--- 65 lines stand, and whatever bytes follow, a head at the front has more than 64 header lines
+-- more line feeds stand than a head has header lines, and whatever bytes follow, a head at the front has too many header lines
 pub record HasTooManyLines (bytes : List ℕ) : Type 0 where
-  pub feeds : 65 ≤ count_by (λ b. b == line_feed) bytes
-  pub overflows : RequestOverflows 64 bytes
+  pub feeds : HEAD_LINES < count_by (λ b. b == line_feed) bytes
+  pub overflows : RequestOverflows HEAD_LINES bytes
 
 -- why a head is given up: with 400, no bytes can follow that make one; with 431, it has too many lines or bytes
 abbrev pub GivesUp : List ℕ → ℕ → Type 0
 GivesUp bytes status =
     ((status ≡ 400) × NeverHasRequest bytes)
-    ⊎ ((status ≡ 431) × (HasTooManyLines bytes ⊎ (16384 ≤ length bytes)))
+    ⊎ ((status ≡ 431) × (HasTooManyLines bytes ⊎ (HEAD_BYTES ≤ length bytes)))
 
 -- the answer to bytes that begin with no whole head
 abbrev pub Headless : List ℕ → Reading → Type 0
-Headless bytes unfinished = (length bytes < 16384) × HasNoRequest bytes × MayBecomeRequest bytes
+Headless bytes unfinished = (length bytes < HEAD_BYTES) × HasNoRequest bytes × MayBecomeRequest bytes
 Headless bytes (whole m) = ⊥
 Headless bytes (broken status) = GivesUp bytes status
 
 -- the next request of bytes: the answer to the whole head that they begin with, and else as above
 abbrev pub IsNext : List ℕ → Reading → Type 0
 IsNext bytes reading =
-    ((h : RequestHead) × (behind : List ℕ) × BeginsWith bytes h behind × (reading ≡ answer_to (head_of h) behind))
+    ((h : RequestHead) × (rest : List ℕ) × BeginsWith bytes h rest × (reading ≡ answer_to (head_of h) rest))
     ⊎ (HasNoHead bytes × Headless bytes reading)
 
 -- the bytes of a span
@@ -57,7 +58,7 @@ reading_of bytes (Request r) = whole (record {
 })
 reading_of bytes (Broken status) = broken status
 
--- the target lies in the head, and the body directly behind the head, within the first n bytes
+-- the target lies in the head, and the body directly after the head, within the first n bytes
 abbrev pub ArePlaced : ℕ → Next → Type 0
 ArePlaced n NeedMore = ⊤
 ArePlaced n (Request r) =

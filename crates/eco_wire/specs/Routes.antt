@@ -1,11 +1,11 @@
--- The table of routes.
+-- The table of routes. The whole request target (RFC 9112, section 3.2) is the path; no part of it is decoded.
 use Rattle.std.specs.Prelude.{◌≡◌, ◌≢◌, ℕ, ◌<◌, ◌^◌, List, ◌++◌, length, All, codes, decimal, IsUtf8, slice_index, Result, Ok, Err}
 use Rattle.eco_wire.specs.declared.request.Method.{Method}
 use Rattle.eco_wire.specs.declared.request.Method.TheVariants.{Get, Post}
 use Rattle.eco_wire.specs.declared.routes.Route.{Route}
 use Rattle.eco_wire.specs.declared.routes.Route.TheVariants.{Front, Spares, Order, Revision, Plan, Commit, Withdraw, Hold, Release}
 use Rattle.eco_wire.specs.declared.routes.RouteFault.{RouteFault}
-use Rattle.eco_wire.specs.declared.routes.RouteFault.TheVariants.{NoPath, WrongMethod, Memory}
+use Rattle.eco_wire.specs.declared.routes.RouteFault.TheVariants.{NoPath, WrongMethod}
 
 -- one or more bytes other than `/`
 pub record IsSegment (text : List ℕ) : Type 0 where
@@ -49,7 +49,6 @@ Routes method path (Ok route) = HasPath route path × (method ≡ method_for rou
 Routes method path (Err NoPath) = (route : Route) → ¬ (HasPath route path)
 Routes method path (Err (WrongMethod allow)) =
     (route : Route) × HasPath route path × (allow ≡ method_for route) × (method ≢ allow)
-Routes method path (Err Memory) = ⊥
 
 -- a path of bytes has one route at most
 abbrev pub RoutesAreOne : Type 0

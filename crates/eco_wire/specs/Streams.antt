@@ -1,8 +1,9 @@
--- The requests of a link's bytes, in whatever pieces they come.
+-- The requests of a link's bytes (RFC 9112, section 9.3), in whatever pieces they come.
 use Rattle.std.specs.Prelude.{◌≡◌, ℕ, ◌-◌, ◌⊎◌, nat_le, List, [], ◌∷◌, ◌++◌, length, drop, Option, Some, None, MatchOption, if◌then◌else◌, ⊤}
 use Rattle.std.specs.List.{concat}
 use Rattle.eco_wire.specs.Heads.{Message, Reading, unfinished, whole, broken}
 use Rattle.eco_wire.specs.Requests.{HasNoHead, IsNext}
+use Rattle.eco_wire.specs.declared.limits.TheConstants.{LINK_REQUESTS}
 
 -- the reading stands, whatever bytes follow
 abbrev pub IsSettled : Reading → Type 0
@@ -44,7 +45,7 @@ IsStream room bytes (m ∷ ms) end =
 
 -- the most requests of a link
 abbrev pub link_requests : ℕ
-link_requests = 1000
+link_requests = LINK_REQUESTS
 
 -- a link that keeps `held` takes some of the pieces; then it keeps `kept`, and `rest` are the pieces to come
 abbrev pub Takes : List ℕ → List (List ℕ) → List ℕ → List (List ℕ) → Type 0

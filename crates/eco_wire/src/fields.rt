@@ -61,8 +61,8 @@ fn after_blanks(text: &[u8]) -> &[u8]
     ensures { result.now ≡ skip_ows text.now }
 {
     let mut rest = text;
-    while let [b' ' | b'\t', behind @ ..] = rest {
-        rest = behind;
+    while let [b' ' | b'\t', others @ ..] = rest {
+        rest = others;
     }
     rest
 }
@@ -104,11 +104,11 @@ fn lists_close(value: &[u8]) -> bool
 {
     let mut rest = value;
     while let Some(end) = first_end(rest) {
-        let (item, behind) = rest.split_at(end);
+        let (item, others) = rest.split_at(end);
         if is_close(item) {
             return true;
         }
-        rest = &behind[1..];
+        rest = &others[1..];
     }
     is_close(rest)
 }

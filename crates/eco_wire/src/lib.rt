@@ -5,7 +5,7 @@
 #![tactic(auto)]
 
 mod fields;
-mod memory;
+mod limits;
 mod numbers;
 mod reading;
 mod reply;
@@ -14,13 +14,17 @@ mod router;
 mod routes;
 mod stream;
 
-pub use crate::memory::Memory;
+pub use crate::limits::{BODY_BYTES, HEAD_BYTES, HEAD_LINES, LINK_REQUESTS};
 pub use crate::reading::next_request;
 pub use crate::reply::{BodyKind, reply_head};
 pub use crate::request::{Method, Next, Request, Span};
 pub use crate::router::{Router, routes_are_one};
 pub use crate::routes::{Route, RouteFault};
-pub use crate::stream::{links_read_streams, pieces_dont_matter, readings_are_one, readings_stay};
+pub use crate::stream::{
+    links_read_streams, pieces_dont_matter, readings_are_one, readings_stay, refusals_have_heads,
+    unfinished_is_short,
+};
+pub use eco_common::Memory;
 
 #[cfg(test)]
 mod tests;

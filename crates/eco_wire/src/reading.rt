@@ -6,18 +6,10 @@ ghost use Rattle.eco_wire.specs.Heads.{Fits, head_at, method_of, answer_to};
 ghost use Rattle.eco_wire.specs.Requests.{IsNext, reading_of, ArePlaced};
 
 use crate::fields::{ContentLength, asks_to_close, content_length, has_line};
+use crate::limits::{BODY_BYTES, HEAD_BYTES, HEAD_LINES};
 use crate::request::{Method, Next, Request, Span};
 use httparse::spans::{EMPTY_HEADER_SPAN, HeaderSpan, RequestSpans, parse_request};
 use httparse::{Error, Status};
-
-/// A head has at most this many bytes.
-const HEAD_BYTES: usize = 16_384;
-
-/// A head has at most this many header lines.
-const HEAD_LINES: usize = 64;
-
-/// A body has at most this many bytes.
-const BODY_BYTES: usize = 131_072;
 
 fn method_named(name: &[u8]) -> Method
     ensures { result ≡ method_of name.now }
@@ -29,7 +21,7 @@ fn method_named(name: &[u8]) -> Method
     }
 }
 
-/// The answer to a whole head and to what stands behind it.
+/// The answer to a whole head and to the bytes after it.
 fn answer(bytes: &[u8], head: &RequestSpans, fields: &[HeaderSpan]) -> Next
     requires { Fits bytes.now head.now fields.now }
     ensures reads { reading_of bytes.now result ≡ answer_to (head_at bytes.now head.now fields.now) (drop head.now.len bytes.now) }
@@ -67,7 +59,7 @@ fn answer(bytes: &[u8], head: &RequestSpans, fields: &[HeaderSpan]) -> Next
     })
 }
 
-/// The next request at the front of the bytes of a link.
+/// The next request at the front of the bytes of a link (RFC 9112, section 2). It takes no memory.
 pub fn next_request(bytes: &[u8]) -> Next
     ensures reads { IsNext bytes.now (reading_of bytes.now result) }
     ensures places { ArePlaced (length bytes.now) result }

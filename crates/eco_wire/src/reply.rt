@@ -3,7 +3,7 @@
 ghost use Rattle.std.specs.Prelude.{◌≡◌, ◌++◌, IfOk, OnOk, IsSome, IsTrue, Some, [], option_map, unwrap_or, string_bytes};
 ghost use Rattle.eco_wire.specs.Replies.{phrase_of, media_of, fits_allow, common_lines_of, allow_line, close_line, reply_head_of};
 
-use crate::memory::Memory;
+use eco_common::Memory;
 use std::alloc::{AllocError, Global};
 
 /// What a reply's body is.

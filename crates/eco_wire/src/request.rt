@@ -7,7 +7,7 @@ pub struct Span {
     pub len: usize,
 }
 
-/// A request's method, byte by byte: `GET`, `POST`, or any other token.
+/// A request's method, byte by byte: `GET`, `POST`, or any other token (RFC 9110, section 9.1).
 #[derive(Clone, Copy, Debug, PartialEq, Eq)]
 pub enum Method {
     Get,

@@ -5,10 +5,10 @@ ghost use Rattle.matchit.specs.Route.{parse_route};
 ghost use Rattle.eco_wire.specs.Table.{table, with_route, HasForm, pattern_of};
 ghost use Rattle.eco_wire.specs.Routes.{IsPathOf, RoutesAreOne};
 
-use crate::memory::Memory;
 use crate::numbers::read_number;
 use crate::request::{Method, Span};
 use crate::routes::{Pattern, Route, RouteFault};
+use eco_common::Memory;
 use std::alloc::Global;
 use std::str;
 
@@ -93,8 +93,8 @@ impl Router {
         read_path(*found.value, path)
     }
 
-    /// The route of a request. It takes no memory today, so it never answers `Memory`.
-    pub fn route(&self, _alloc: Global, method: &Method, path: &[u8]) -> Result<Route, RouteFault>
+    /// The route of a request. It takes no memory.
+    pub fn route(&self, method: &Method, path: &[u8]) -> Result<Route, RouteFault>
         ensures { Routes method.now path.now result }
     {
         let Some(route) = self.find(path) else {

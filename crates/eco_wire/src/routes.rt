@@ -50,8 +50,6 @@ pub enum RouteFault {
     NoPath,
     #[error("the route of this path has the method {allow:?}")]
     WrongMethod { allow: Method },
-    #[error("out of memory")]
-    Memory,
 }
 
 /// What a path of the table looks like.

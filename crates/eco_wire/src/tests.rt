@@ -1,3 +1,4 @@
+//! Requests, routes and reply heads against texts from outside.
 use crate::{
     BodyKind, Method, Next, Request, Route, RouteFault, Router, Span, next_request, reply_head,
 };
@@ -9,13 +10,8 @@ fn next(bytes: &[u8]) -> Next {
     next_request(bytes)
 }
 
-fn routed(
-    alloc: Global,
-    router: &Router,
-    method: Method,
-    path: &[u8],
-) -> Result<Route, RouteFault> {
-    router.route(alloc, &method, path)
+fn routed(router: &Router, method: Method, path: &[u8]) -> Result<Route, RouteFault> {
+    router.route(&method, path)
 }
 
 /// The head of a reply whose status has a phrase.
@@ -270,17 +266,14 @@ const NO_PATHS: [(Method, &[u8]); 14] = [
 fn paths_have_the_routes_of_the_table(rt: HostRuntime) -> Result<(), Fail> {
     let router = Router::new(rt.alloc())?;
     for (method, path, route) in ROUTES {
-        assert_eq!(rt; routed(rt.alloc(), &router, method, path), Ok(route));
+        assert_eq!(rt; routed(&router, method, path), Ok(route));
     }
     for (method, path, allow) in WRONG_METHODS {
         let wrong = RouteFault::WrongMethod { allow };
-        assert_eq!(rt; routed(rt.alloc(), &router, method, path), Err(wrong));
+        assert_eq!(rt; routed(&router, method, path), Err(wrong));
     }
     for (method, path) in NO_PATHS {
-        assert_eq!(rt;
-            routed(rt.alloc(), &router, method, path),
-            Err(RouteFault::NoPath)
-        );
+        assert_eq!(rt; routed(&router, method, path), Err(RouteFault::NoPath));
     }
     Ok(())
 }

@@ -1,9 +1,9 @@
-// Times a least matching of gates onto spares, where each gate may have each spare:
-// match_bench GATES SPARES remainders|products [times]
+//! Times a least matching of gates onto spares, where each gate may have each spare:
+//! match_bench GATES SPARES remainders|products [times]
 #![tactic(auto)]
 
 ghost use Rattle.std.specs.Prelude.{◌≡◌, ℕ, ◌+◌, ◌*◌, ◌^◌, ◌≤◌, ◌<◌};
-ghost use Rattle.eco_bench.specs.Region.{room_of};
+ghost use Rattle.eco_bench.specs.Region.{free_words};
 ghost use Rattle.eco_match.specs.Rows.{AreRows, ComesNext, rows_cost, need};
 
 use anyhow::{Context, Result, bail, ensure};
@@ -70,7 +70,7 @@ fn fill_row(bench: &mut Bench, rows: &mut Rows, gate: u32, spares: u32, costs: C
 fn fill(bench: &mut Bench, gates: u32, spares: u32, costs: Costs) -> Rows
     requires gates { gates ≤ 128 }
     requires spares { spares ≤ 32768 }
-    requires room { need gates spares (gates * spares) ≤ room_of bench.old }
+    requires room { need gates spares (gates * spares) ≤ free_words bench.old }
     ensures rows { AreRows bench.new result }
 {
     let mut rows = Rows::begin(bench, gates, spares, gates * spares);
@@ -80,7 +80,7 @@ fn fill(bench: &mut Bench, gates: u32, spares: u32, costs: Costs) -> Rows
     rows
 }
 
-/// Reads the words of the command line behind the program's name.
+/// Reads the command line's words after the program's name.
 fn read_task<R: Env + AllocGlobal>(rt: &R) -> Result<Task> {
     let mut words = env::args(rt)?.skip(1);
     let gates = words

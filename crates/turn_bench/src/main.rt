@@ -1,5 +1,5 @@
-// Times passes that enter and leave one turn, beside threads that lock one mutex, at the same work:
-// turn_bench PAIRS ROUNDS [times]
+//! Times passes that enter and leave one turn, beside threads that lock one mutex, at the same work:
+//! turn_bench PAIRS ROUNDS [times]
 #![tactic(auto)]
 
 ghost use Rattle.std.specs.Prelude.{◌<◌, ◌≤◌};

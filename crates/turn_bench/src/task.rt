@@ -1,4 +1,4 @@
-//! What is asked for on the command line.
+//! The task that the command line gives.
 use anyhow::{Context, Result, ensure};
 use std::env;
 use std::rt::Env;
@@ -13,7 +13,7 @@ pub struct Task {
     pub times: bool,
 }
 
-/// Reads the words of the command line behind the program's name.
+/// Reads the command line's words after the program's name.
 pub fn read_task<R: Env + AllocGlobal>(rt: &R) -> Result<Task> {
     let mut words = env::args(rt)?.skip(1);
     let pairs = words

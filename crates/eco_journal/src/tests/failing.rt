@@ -3,7 +3,7 @@
 use super::*;
 use std::test::Fail;
 
-// Behind the header: a closed gate, one with an unfinished entry behind it, and an entry.
+// After the header: a closed gate, one with an unfinished entry after it, and an entry.
 const CLOSED: &[u8] = &[0];
 
 const STAGED: &[u8] = &[0, 0, 0, 0, 1, 120, 0];
@@ -25,7 +25,7 @@ fn appended(
     }
 }
 
-// Whether these stand behind the header, as they are read and as they were synced.
+// Whether these stand after the header, as they are read and as they were synced.
 fn shows(disk: &MemoryDisk, bytes: &[u8], synced: &[u8]) -> bool {
     ends_in(disk.bytes(), bytes) && ends_in(disk.synced(), synced)
 }

@@ -86,16 +86,18 @@ fn images(alloc: Global, before: &[Vec<u8>], call: &Call) -> Result<Vec<Vec<u8>>
 }
 
 // Whether after each call each image opens to what is allowed then: nothing, nothing or `a`, or `a`.
-fn all_open(alloc: Global, calls: &[Call], allowed: &[u8]) -> Result<bool, AllocError> {
+fn all_open(alloc: Global, attempts: &[Attempt], allowed: &[u8]) -> Result<bool, AllocError> {
     let mut now = Vec::new(alloc);
     let mut left = vec![in alloc; Vec::new(alloc)]?;
-    for (call, stage) in calls.iter().zip(allowed.iter()) {
-        now = made(alloc, &now, call)?;
-        left = match call {
-            Call::Sync => vec![in alloc; Vec::from_slice(alloc, &now)?]?,
-            Call::Write { .. } | Call::Cut { .. } => images(alloc, &left, call)?,
-            _ => left,
-        };
+    for (attempt, stage) in attempts.iter().zip(allowed.iter()) {
+        if let Attempt::Made(call) = attempt {
+            now = made(alloc, &now, call)?;
+            left = match call {
+                Call::Sync => vec![in alloc; Vec::from_slice(alloc, &now)?]?,
+                Call::Write { .. } | Call::Cut { .. } => images(alloc, &left, call)?,
+                _ => left,
+            };
+        }
         for bytes in left.iter() {
             let found = opens_to(alloc, bytes)?;
             let good = match stage {
@@ -108,7 +110,7 @@ fn all_open(alloc: Global, calls: &[Call], allowed: &[u8]) -> Result<bool, Alloc
             }
         }
     }
-    Ok(calls.len() == allowed.len())
+    Ok(attempts.len() == allowed.len())
 }
 
 // Starts on an empty disk, appends `a`, and mends where that failed.

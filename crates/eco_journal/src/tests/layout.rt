@@ -1,4 +1,4 @@
-//! The bytes of a journal, and the calls that make them.
+//! The bytes of a journal, and where a bad record is refused.
 use super::*;
 use std::test::Fail;
 
@@ -73,7 +73,7 @@ fn a_journal_of_another_base_is_refused_with_both_digests(rt: HostRuntime) -> Re
     Ok(())
 }
 
-// Where a bad record stands on a disk of a header with this first byte, and these bytes behind it.
+// Where a bad record stands on a disk of a header with this first byte, and these bytes after it.
 fn bad_place(alloc: Global, gate: u8, tail: &[u8]) -> Result<Option<u64>, AllocError> {
     let mut bytes = Vec::from_slice(alloc, &[gate])?;
     bytes.extend_from_slice(&HEADER[1..])?;
@@ -100,68 +100,6 @@ fn a_bad_record_is_refused_at_its_gate(rt: HostRuntime) -> Result<(), Fail> {
     ];
     for (gate, tail, expected) in table {
         assert!(rt; bad_place(alloc, gate, tail)? == expected);
-    }
-    Ok(())
-}
-
-// The disk's calls that write, cut or sync, as `w` or `c` with the place, or `s`.
-fn changes(alloc: Global, calls: &[Call]) -> Result<Vec<u8>, Fail> {
-    let mut text = Vec::new(alloc);
-    for call in calls.iter() {
-        match call {
-            Call::Write { at, .. } => {
-                text.extend_from_slice(format!(in alloc; "w{at} ")?.as_bytes())?;
-            }
-            Call::Cut { len } => {
-                text.extend_from_slice(format!(in alloc; "c{len} ")?.as_bytes())?;
-            }
-            Call::Sync => {
-                text.extend_from_slice(b"s ")?;
-            }
-            _ => {}
-        }
-    }
-    Ok(text)
-}
-
-fn changes_of_a_start(alloc: Global, bytes: &[u8]) -> Result<Vec<u8>, Fail> {
-    let disk = MemoryDisk::new(Vec::from_slice(alloc, bytes)?, Vec::new(alloc));
-    match Journal::start(alloc, disk, DIGEST) {
-        Ok((journal, _)) => changes(alloc, journal.end().calls()),
-        Err((disk, _)) => changes(alloc, disk.calls()),
-    }
-}
-
-#[test]
-fn a_start_changes_only_what_the_bytes_ask_for(rt: HostRuntime) -> Result<(), Fail> {
-    let alloc = rt.alloc();
-    let short: [(&[u8], &str); 4] = [
-        (b"", "s w0 s w1 s w0 s "),
-        (b"\x01", "s w0 s w1 s w0 s "),
-        (b"\x00ab", "s w1 s w0 s "),
-        (b"\x05ab", "s w0 s w1 s w0 s "),
-    ];
-    for (bytes, expected) in short {
-        let found = changes_of_a_start(alloc, bytes)?;
-        assert_eq!(rt; found.as_slice(), expected.as_bytes());
-    }
-    let behind_a_header: [(u8, &[u8], &str); 9] = [
-        (9, b"\x00", "s w0 s w1 s w0 s "),
-        (1, b"\x00", "s "),
-        (1, b"\x00ab", "s c42 s "),
-        (1, b"\x09\x00\x00\x00\x01x\x00", "s w41 s c42 s "),
-        (1, b"\x09", "s w41 s "),
-        (1, b"\x01\x00\x00\x00\x01x\x00", "s "),
-        (1, b"\x01\x00\x00\x00\x01x\x00ab", "s c48 s "),
-        (1, b"\x01\x00\x00\x00\x01x", "s "),
-        (9, b"\x00ab", "s "),
-    ];
-    for (gate, tail, expected) in behind_a_header {
-        let mut bytes = Vec::from_slice(alloc, &[gate])?;
-        bytes.extend_from_slice(&HEADER[1..])?;
-        bytes.extend_from_slice(tail)?;
-        let found = changes_of_a_start(alloc, &bytes)?;
-        assert_eq!(rt; found.as_slice(), expected.as_bytes());
     }
     Ok(())
 }

@@ -16,7 +16,7 @@ use crate::view::View;
 use atomic_table::Seat;
 
 impl<T: Kept> Turn<T> {
-    /// Ends the turn, whose passes must all be given back, in any order, and gives the value back. It takes no memory.
+    /// Ends the turn, whose passes must all be returned, in any order, and gives the value back. It takes no memory.
     pub fn close(self, passes: Vec<Pass<T::Entry, T::Fixed>>) -> T
         requires all { AreAll (turn_passes self) passes.items }
         requires each { All (λ p. IsPassOf T.fixed self p × HasLeft p) passes.items }

@@ -8,16 +8,16 @@ ghost use Rattle.eco_turn.specs.Turn.{turn_id, turn_start, turn_passes, IsNew, A
 
 use super::Turn;
 use crate::kept::Kept;
-use crate::memory::Memory;
 use crate::pass::Pass;
 use crate::plays::SplitOff;
 use crate::view::{Start, View};
 use atomic_table::{Seat, Table};
+use eco_common::Memory;
 use std::alloc::Global;
 use std::snapshot::Snapshot;
 
 impl<T: Kept> Turn<T> {
-    /// Makes a turn over the value, and `passes` passes, numbered from 1. Where there is no memory, the value comes back.
+    /// Makes a turn over the value, and `passes` passes, numbered from 1. If memory runs out, the value is returned.
     pub fn new(
         alloc: Global,
         value: T,

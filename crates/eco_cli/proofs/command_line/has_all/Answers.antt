@@ -1,6 +1,7 @@
 use Rattle.std.proofs.Common.{sym, ◌∙◌, map, string_bytes}
 use Rattle.std.proofs.lemmas.List.{length-map}
-use Rattle.eco_cli.specs.CommandLine.{is_among, options_in, listed_of}
+use Rattle.eco_common.specs.NameBytes.{is_among}
+use Rattle.eco_cli.specs.CommandLine.{options_in, listed_of}
 use Rattle.eco_cli.proofs.Words.{list_all-map, complete_where_even}
 use Rattle.eco_cli.proofs.command_line.has_all.Goals as goal
 

@@ -1,6 +1,7 @@
 use Rattle.std.proofs.Common.{map, sym, ◌∙◌, string_bytes}
 use Rattle.std.specs.Str.{bytes_eq}
-use Rattle.eco_cli.specs.CommandLine.{is_listed, is_among, options_in, listed_of}
+use Rattle.eco_cli.specs.CommandLine.{is_listed, options_in, listed_of}
+use Rattle.eco_common.specs.NameBytes.{is_among}
 use Rattle.eco_cli.proofs.Words.{list_any-map, is_no_option, is_an_option}
 use Rattle.eco_cli.proofs.command_line.is_bad_option.Goals as goal
 

@@ -1,6 +1,6 @@
 use Rattle.std.proofs.Common.{◌∷◌, take, Ok}
 use Rattle.std.specs.List.{flat_map}
-use Rattle.eco_text.specs.declared.failed.Failed.{Failed}
+use Rattle.eco_common.specs.declared.failed.Failed.{Failed}
 use Rattle.eco_text.specs.Writing.{Writes}
 use Rattle.eco_cli.proofs.telling_base.print_behind.Given as goal
 

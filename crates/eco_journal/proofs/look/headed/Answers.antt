@@ -5,10 +5,13 @@ use Rattle.eco_disk.proofs.Told.{told_at, told_from}
 use Rattle.eco_journal.specs.Layout.{is_fresh, has_header, bad_place}
 use Rattle.eco_journal.specs.Reading.{IsReadAll, listed_in}
 use Rattle.eco_journal.specs.Steps.{BadAt}
-use Rattle.eco_journal.specs.Opening.{AreEntries, DiffersAt, IsUnfinishedIn}
+use Rattle.eco_journal.specs.Start.{AreEntries, DiffersAt, IsUnfinishedIn}
 use Rattle.eco_journal.specs.Sound.{IsSound}
 use Rattle.eco_journal.proofs.Listing.{listing_of, listing_entries, read_are, read_during, read_has, told_bytes, no_head_fault, no_list_fault, read_entries_are, found_sound, some_is}
+use Rattle.eco_journal.specs.Calls.{settle_calls, end_calls}
 use Rattle.eco_journal.proofs.ReadSteps.{reads_on}
+use Rattle.eco_journal.proofs.Unfinished.{whole_as}
+use Rattle.eco_journal.proofs.Changes.{end_is, follows_is}
 use Rattle.eco_journal.proofs.look.headed.Goals as goal
 
 pub returns-in_err-check_head-clause-crash : goal.returns-in_err-check_head-clause-crash
@@ -19,7 +22,7 @@ returns-in_err-check_head-clause-crash g c bytes payloads whole old are has =
     let bad = told_at (g.D.Disk.contents c.args.disk.now) (λ bytes. BadAt (λ place. (place ≡ 0) × IsFalse (has_header bytes)) c.in_err-check_head.field-0.0) bytes told c.in_err-check_head.ensures.bad in
     let differs = told_at (g.D.Disk.contents c.args.disk.now) (λ bytes. DiffersAt bytes c.args.digest.now c.in_err-check_head.field-0.0) bytes told c.in_err-check_head.ensures.differs in
     rw (p.1, p.2) (record {
-      any_moment = read_during bytes has (record { whole = whole; entries_are = are }) c.check_head.ensures.reads.crash;
+      any_moment = read_during bytes has (whole_as c.args.digest.now bytes payloads whole are) c.check_head.ensures.reads.crash;
       found = tt;
       no_refusal = no_head_fault c.args.digest.now bytes l c.in_err-check_head.field-0.0 bad differs;
     })
@@ -32,7 +35,7 @@ returns-in_err-found-clause-crash g c bytes payloads whole old are has =
     let reads = reads_on c.check_head.ensures.reads c.read_entries.ensures.reads in
     let bad = told_at (g.D.Disk.contents c.check_head.new.disk) (λ bytes. BadAt (λ place. bad_place (listed_in bytes) ≡ Some place) c.in_err-found.field-0.0) bytes told c.in_err-found.ensures.bad in
     rw (p.1, p.2) (record {
-      any_moment = read_during bytes has (record { whole = whole; entries_are = are }) reads.crash;
+      any_moment = read_during bytes has (whole_as c.args.digest.now bytes payloads whole are) reads.crash;
       found = tt;
       no_refusal = no_list_fault c.args.digest.now bytes l c.in_err-found.field-0.0 bad c.in_err-found.ensures.same_base;
     })
@@ -49,7 +52,7 @@ returns-clause-crash g c bytes payloads whole old are has =
     let same : Some c.in_ok-found.found.entries.items ≡ Some payloads =
     ap Some (read_are c.args.digest.now bytes l c.in_ok-found.found.entries.items c.in_ok-found.found.at c.in_ok-found.found.gate read) ∙ sym (listing_entries c.args.digest.now bytes l) ∙ are in
     record {
-      any_moment = read_during bytes has (record { whole = whole; entries_are = are }) reads.crash;
+      any_moment = read_during bytes has (whole_as c.args.digest.now bytes payloads whole are) reads.crash;
       found =
           let are_payloads = some_is c.in_ok-found.found.entries.items payloads same in
           let standing = sym c.standing_of.ensures in
@@ -68,3 +71,10 @@ returns-clause-found g c = told_from (g.D.Disk.contents c.args.disk.now) (λ byt
     let head = told_at (g.D.Disk.contents c.args.disk.now) (λ bytes. IsTrue (has_header bytes) × (take 32 (drop 9 bytes) ≡ c.args.digest.now)) bytes told c.in_ok-check_head.ensures.head in
     let read = told_at (g.D.Disk.contents c.check_head.new.disk) (λ bytes. IsReadAll bytes c.in_ok-found.found.entries.items c.in_ok-found.found.at c.in_ok-found.found.gate) bytes (c.check_head.ensures.reads.contents ∙ told) c.in_ok-found.ensures.all in
     (read_entries_are bytes c.in_ok-found.found.entries.items c.in_ok-found.found.at c.in_ok-found.found.gate old head.0 read, λ has. head.1))
+
+pub returns-clause-ended : goal.returns-clause-ended
+returns-clause-ended g c = told_from (g.D.Disk.contents c.args.disk.now) (λ bytes. IsFalse (is_fresh bytes) → settle_calls c.standing_of.result c.in_ok-found.found.at (nat_lt (c.in_ok-found.found.at + 1) c.args.len) ≡ end_calls bytes) (λ bytes told old.
+    let read = told_at (g.D.Disk.contents c.check_head.new.disk) (λ bytes. IsReadAll bytes c.in_ok-found.found.entries.items c.in_ok-found.found.at c.in_ok-found.found.gate) bytes (c.check_head.ensures.reads.contents ∙ told) c.in_ok-found.ensures.all in
+    let len = told_at (g.D.Disk.contents c.args.disk.now) (λ bytes. c.args.len ≡ length bytes) bytes told c.requires in
+    ap (λ s. settle_calls s c.in_ok-found.found.at (nat_lt (c.in_ok-found.found.at + 1) c.args.len)) c.standing_of.ensures
+    ∙ end_is bytes c.in_ok-found.found.entries.items c.in_ok-found.found.at c.in_ok-found.found.gate (nat_lt (c.in_ok-found.found.at + 1) c.args.len) old read (follows_is bytes c.in_ok-found.found.at c.args.len len))

@@ -1,4 +1,5 @@
 use Rattle.std.proofs.Common.{ℕ, List, Result, Ok, Err, IfOk}
+use Rattle.eco_common.specs.declared.limits.TheConstants.{MAX_MASTERS}
 use Rattle.eco_lef.specs.declared.fault.LefFault.{LefFault}
 use Rattle.eco_lef.specs.declared.master.Master.{Master}
 use Rattle.eco_lef.specs.Limits.{IsLibraryOf}
@@ -7,7 +8,7 @@ use Rattle.eco_lef.proofs.Distinct.{names_differ}
 use Rattle.eco_lef.proofs.Limits.{library_is}
 use Rattle.eco_lef.proofs.read.read_lef.Goals as goal
 
-own_names : (text : List ℕ) (r : Result (List Master) LefFault) → IfOk r (IsLibraryOf 16384 text) → IfOk r HaveOwnNames
+own_names : (text : List ℕ) (r : Result (List Master) LefFault) → IfOk r (IsLibraryOf MAX_MASTERS text) → IfOk r HaveOwnNames
 own_names text (Ok masters) is = names_differ text masters is.0
 own_names text (Err e) is = tt
 

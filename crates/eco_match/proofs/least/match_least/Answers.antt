@@ -1,4 +1,5 @@
 use Rattle.std.proofs.Common.{arith, ap, subst, ◌∙◌, List, ℕ, Option, drop}
+use Rattle.eco_bench.proofs.Apart.{within-of}
 use Rattle.eco_match.specs.MatchOut.{IsAnswer, IsExact}
 use Rattle.eco_match.specs.Rows.{head_of, columns_of, work_len}
 use Rattle.eco_match.proofs.Kept.{Written, only-work, rows-kept, costs-kept, costs-read}
@@ -13,8 +14,8 @@ returns c =
     let v = c.words_mut-words.ensures.value in
     let work = c.match_parts.new.work in
     let w : Written area r h.result.0.now work o.result.1.now = record {
-      stands = c.requires.rows.stands;
-      fits = c.requires.rows.fits;
+      stands = within-of area r.span c.requires.rows.carved c.requires.rows.stands;
+      fits = c.requires.rows.carved.fits;
       size = omega (arith, c.requires.rows.size);
       head_is = h.ensures.front ∙ ap (λ (xs : List ℕ). head_of r xs) v;
       columns_is = o.ensures.back ∙ ap (λ (n : ℕ). drop n h.result.1.now) c.work_words.ensures ∙ ap (λ (xs : List ℕ). drop (work_len r) xs) h.ensures.back ∙ ap (λ (xs : List ℕ). columns_of r xs) v;

@@ -22,10 +22,10 @@ pub returns : goal.returns
 returns c =
     let r = c.args.rows.now in
     let t = c.table_of-table in
-    let out = c.tell_short.new.out in
+    let out = c.set_short.new.out in
     let s = c.solve.ensures.stuck c.if-solve.false in
     let short : IsShort r.gates r.spares (table_cost t.result) (out_short out) =
-    answer-short r t.result c.solve.new.owner s.0 s.1 c.solve.new.out c.solve.new.tree out t.ensures.table (omega arith) s.2 c.tell_short.ensures in
+    answer-short r t.result c.solve.new.owner s.0 s.1 c.solve.new.out c.solve.new.tree out t.ensures.table (omega arith) s.2 c.set_short.ensures in
     record {
       answer = subst (λ (costs : ℕ → ℕ → Option ℕ). IsShort r.gates r.spares costs (out_short out)) t.ensures.costs short;
       exact = subst (λ (costs : ℕ → ℕ → Option ℕ). HasNone r.gates costs) t.ensures.costs (none-short r t.result out t.ensures.table short);

@@ -12,7 +12,7 @@ put_comp-requires-clause-each_net c =
 
 pub put_comp-requires-clause-few : goal.put_comp-requires-clause-few
 put_comp-requires-clause-few c n =
-    omega (arith, c.requires.few n, step_few c.args.listed.now c.args.on.now c.loop-comp.on (tops_to (length c.args.listed.now.tops) ++ comp_pins 0 (take c.loop-comp.comp c.args.listed.now.comps)) c.loop-comp.invariant n, some_few c.args.listed.now c.net_count-listing.ensures.listing c.loop-comp.comp)
+    omega (arith, c.requires.few n, step_few c.args.listed.now c.args.on.now c.loop-comp.on (tops_to (length c.args.listed.now.tops) ++ comp_pins 0 (take c.loop-comp.comp c.args.listed.now.comps)) c.loop-comp.invariant n, some_few c.args.listed.now c.facts.ensures.listing c.loop-comp.comp)
 
 pub loop-comp-preserved : goal.loop-comp-preserved
 loop-comp-preserved c =

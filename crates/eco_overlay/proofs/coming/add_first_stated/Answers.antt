@@ -1,8 +1,8 @@
 use Rattle.std.proofs.Common.{◌≡◌, ◌++◌, [], ◌∷◌, ap, sym, ◌∙◌, map, false, get_or, Bor, ℕ, List, if◌then◌else◌, append-nil}
 use Rattle.std.proofs.lemmas.List.{map-append}
-use Rattle.eco_text.specs.declared.geometry.Dir.TheVariants as Dir
-use Rattle.eco_full.specs.Stated.{word_bytes}
-use Rattle.eco_def.specs.Known.{knows}
+use Rattle.eco_common.specs.declared.geometry.Dir.TheVariants as Dir
+use Rattle.eco_text.specs.Cursor.{word_bytes}
+use Rattle.eco_common.specs.KnownNames.{knows}
 use Rattle.eco_text.specs.declared.word.Word.{Word}
 use Rattle.eco_def.specs.declared.design.TopPin.{TopPin}
 use Rattle.eco_overlay.proofs.NetPins.{top_more}

@@ -1,7 +1,7 @@
 use Rattle.std.proofs.Common.{◌≡◌, ℕ, List, ◌++◌, ◌||◌, map, take, false, true}
 use Rattle.std.specs.List.{list_any}
-use Rattle.eco_def.specs.Known.{knows}
-use Rattle.eco_issued.specs.Changes.{is_nil}
+use Rattle.eco_common.specs.KnownNames.{knows}
+use Rattle.eco_issued_laws.specs.Changes.{is_nil}
 use Rattle.eco_overlay.specs.PinMoves.{tops_net}
 use Rattle.eco_overlay.specs.NetChanges.{pins_on, is_statement_of, first_stated}
 use Rattle.eco_overlay.proofs.coming.add_first_stated.Given as goal

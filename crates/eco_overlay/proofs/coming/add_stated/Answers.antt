@@ -1,7 +1,7 @@
 use Rattle.std.proofs.Common.{sym, ◌∙◌, ◌||◌, not}
-use Rattle.eco_def.specs.Known.{knows}
-use Rattle.eco_issued.specs.Changes.{is_nil}
-use Rattle.eco_full.specs.Stated.{word_bytes}
+use Rattle.eco_common.specs.KnownNames.{knows}
+use Rattle.eco_issued_laws.specs.Changes.{is_nil}
+use Rattle.eco_text.specs.Cursor.{word_bytes}
 use Rattle.eco_overlay.specs.NetChanges.{pins_on}
 use Rattle.eco_overlay.proofs.NetPins.{no_statement, one_statement}
 use Rattle.eco_overlay.proofs.coming.add_stated.Goals as goal

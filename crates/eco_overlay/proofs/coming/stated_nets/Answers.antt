@@ -1,4 +1,4 @@
-use Rattle.eco_def.specs.Known.{knows}
+use Rattle.eco_common.specs.KnownNames.{knows}
 use Rattle.eco_overlay.proofs.NetPins.{stated_more}
 use Rattle.eco_overlay.proofs.coming.stated_nets.Goals as goal
 

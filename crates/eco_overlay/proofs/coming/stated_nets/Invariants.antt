@@ -1,7 +1,7 @@
 use Rattle.std.proofs.Common.{◌≡◌, ℕ, List, take, false}
 use Rattle.std.specs.List.{list_any}
-use Rattle.eco_def.specs.Known.{knows}
-use Rattle.eco_issued.specs.Changes.{is_nil}
+use Rattle.eco_common.specs.KnownNames.{knows}
+use Rattle.eco_issued_laws.specs.Changes.{is_nil}
 use Rattle.eco_overlay.specs.NetChanges.{pins_on, is_statement_of}
 use Rattle.eco_overlay.proofs.coming.stated_nets.Given as goal
 

@@ -1,7 +1,7 @@
 use Rattle.std.proofs.Common.{ap, sym, ◌∙◌, ◌++◌, map}
 use Rattle.std.proofs.lemmas.List.Folds.{flat_map-map}
 use Rattle.eco_def.specs.View.{design_in}
-use Rattle.eco_issued.specs.Issued.{fresh_text}
+use Rattle.eco_issued_laws.specs.Issued.{fresh_text}
 use Rattle.eco_overlay.specs.NetChanges.{fresh_of}
 use Rattle.eco_overlay.proofs.Writing.{on_ok}
 use Rattle.eco_overlay.proofs.Lean.{appended_is, nil_map, not_nil}

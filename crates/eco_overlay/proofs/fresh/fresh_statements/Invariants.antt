@@ -1,6 +1,6 @@
 use Rattle.std.proofs.Common.{◌≡◌, take}
 use Rattle.std.specs.List.{flat_map}
-use Rattle.eco_issued.specs.Issued.{fresh_text}
+use Rattle.eco_issued_laws.specs.Issued.{fresh_text}
 use Rattle.eco_overlay.specs.NetChanges.{fresh_of}
 use Rattle.eco_overlay.proofs.fresh.fresh_statements.Given as goal
 

@@ -3,8 +3,8 @@ use Rattle.std.specs.List.{list_all}
 use Rattle.std.proofs.lemmas.List.Folds.{list_all-map}
 use Rattle.eco_def.specs.View.{joint_in}
 use Rattle.eco_def.specs.Named.{joint_names}
-use Rattle.eco_issued.specs.Changes.{is_nil, stays_on}
-use Rattle.eco_full.specs.Stated.{word_bytes}
+use Rattle.eco_issued_laws.specs.Changes.{is_nil, stays_on}
+use Rattle.eco_text.specs.Cursor.{word_bytes}
 use Rattle.eco_overlay.specs.PinMoves.{new_joint, moved_pin}
 use Rattle.eco_overlay.specs.NetChanges.{pins_for}
 use Rattle.eco_overlay.proofs.Lean.{nil_map, nothing_comes, and_on}

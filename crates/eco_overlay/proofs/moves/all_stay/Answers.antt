@@ -1,8 +1,8 @@
 use Rattle.std.proofs.Common.{map, rules, tests}
 use Rattle.std.proofs.lemmas.Iterator.Search.{all_from_yields_List}
-use Rattle.eco_issued.specs.Changes.{stays_on}
+use Rattle.eco_issued_laws.specs.Changes.{stays_on}
 use Rattle.eco_overlay.specs.PinMoves.{new_joint, names_in}
-use Rattle.eco_full.proofs.Walking.{walk}
+use Rattle.eco_def.proofs.Walking.{walk}
 use Rattle.eco_overlay.proofs.moves.all_stay.Goals as goal
 
 pub returns : goal.returns

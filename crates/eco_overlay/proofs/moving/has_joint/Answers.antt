@@ -1,8 +1,8 @@
 use Rattle.std.proofs.Common.{rules, tests}
 use Rattle.std.proofs.lemmas.Iterator.Search.{any_from_yields_List}
-use Rattle.eco_issued.specs.Changes.{is_of}
+use Rattle.eco_issued_laws.specs.Changes.{is_of}
 use Rattle.eco_overlay.specs.PinMoves.{new_joint, names_in}
-use Rattle.eco_full.proofs.Walking.{walk}
+use Rattle.eco_def.proofs.Walking.{walk}
 use Rattle.eco_overlay.proofs.moving.has_joint.Goals as goal
 
 pub returns : goal.returns

@@ -1,7 +1,7 @@
 use Rattle.std.proofs.Common.{◌∷◌, [], sym, ◌∙◌}
 use Rattle.eco_def.specs.View.{design_in}
 use Rattle.eco_def.specs.Named.{names_of}
-use Rattle.eco_issued.specs.Changes.{NewJoint}
+use Rattle.eco_issued_laws.specs.Changes.{NewJoint}
 use Rattle.eco_overlay.proofs.Readings.{has_comp_is, has_net_is, stands_is, no_comp, not_on_net, no_net, no_fault}
 use Rattle.eco_overlay.proofs.moving.move_joint.Goals as goal
 

@@ -1,6 +1,6 @@
 use Rattle.std.proofs.Common.{arith, length, get_or}
 use Rattle.eco_overlay.specs.declared.stretch.Stretch.{Stretch}
-use Rattle.eco_issued.specs.Issued.{edited}
+use Rattle.eco_issued_laws.specs.Issued.{edited}
 use Rattle.eco_overlay.specs.Overlays.{edits_of}
 use Rattle.eco_overlay.proofs.Editing.{order_on, rises_on, length_on}
 use Rattle.eco_overlay.proofs.overlay.stretched_len.Goals as goal

@@ -1,5 +1,5 @@
 use Rattle.std.proofs.Common.{◌≡◌, ℕ, ◌+◌, ◌≤◌, length, drop}
-use Rattle.eco_issued.specs.Issued.{edited, InOrder}
+use Rattle.eco_issued_laws.specs.Issued.{edited, InOrder}
 use Rattle.eco_overlay.specs.Overlays.{edits_of, Rises}
 use Rattle.eco_overlay.proofs.overlay.stretched_len.Given as goal
 

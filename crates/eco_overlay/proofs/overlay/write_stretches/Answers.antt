@@ -3,7 +3,7 @@ use Rattle.std.proofs.lemmas.List.{take_rest}
 use Rattle.std.proofs.lemmas.Result.{err_from_is_err_and}
 use Rattle.eco_text.proofs.Sequence.{then, longer}
 use Rattle.eco_overlay.specs.declared.stretch.Stretch.{Stretch}
-use Rattle.eco_issued.specs.Issued.{edited}
+use Rattle.eco_issued_laws.specs.Issued.{edited}
 use Rattle.eco_overlay.specs.Overlays.{edits_of}
 use Rattle.eco_overlay.proofs.Editing.{edited_on, edited_end, rises_on}
 use Rattle.eco_overlay.proofs.overlay.write_stretches.Goals as goal

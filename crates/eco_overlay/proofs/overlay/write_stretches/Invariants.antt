@@ -1,7 +1,7 @@
 use Rattle.std.proofs.Common.{◌≡◌, ℕ, List, ◌++◌, length, drop, Ok}
-use Rattle.eco_text.specs.declared.failed.Failed.{Failed}
+use Rattle.eco_common.specs.declared.failed.Failed.{Failed}
 use Rattle.eco_text.specs.Writing.{Writes}
-use Rattle.eco_issued.specs.Issued.{edited}
+use Rattle.eco_issued_laws.specs.Issued.{edited}
 use Rattle.eco_overlay.specs.Overlays.{edits_of, Rises}
 use Rattle.eco_overlay.proofs.overlay.write_stretches.Given as goal
 

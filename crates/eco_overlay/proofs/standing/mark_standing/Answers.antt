@@ -1,5 +1,5 @@
 use Rattle.std.proofs.Common.{refl, ap, ◌∙◌, take, map, subst, sym}
-use Rattle.eco_full.specs.Stated.{word_bytes}
+use Rattle.eco_text.specs.Cursor.{word_bytes}
 use Rattle.eco_overlay.specs.PinMoves.{marked_by, marked_in, AreInOrder}
 use Rattle.eco_overlay.proofs.Marking.{keeps_order, none_marked_in, one_marked_in}
 use Rattle.eco_overlay.proofs.standing.mark_standing.Goals as goal

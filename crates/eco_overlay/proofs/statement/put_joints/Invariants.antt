@@ -1,8 +1,8 @@
 use Rattle.std.proofs.Common.{◌≡◌, ◌++◌, map}
 use Rattle.std.specs.List.{flat_map}
 use Rattle.eco_def.specs.View.{joint_in}
-use Rattle.eco_issued.specs.Changes.{stays_on}
-use Rattle.eco_issued.specs.Issued.{kept_text}
+use Rattle.eco_issued_laws.specs.Changes.{stays_on}
+use Rattle.eco_issued_laws.specs.Issued.{kept_text}
 use Rattle.eco_overlay.specs.PinMoves.{new_joint}
 use Rattle.eco_overlay.proofs.statement.put_joints.Given as goal
 

@@ -1,7 +1,7 @@
 use Rattle.std.proofs.Common.{◌≡◌, ◌++◌, take}
 use Rattle.std.specs.List.{flat_map}
-use Rattle.eco_issued.specs.Printing.{spaced}
-use Rattle.eco_issued.specs.Issued.{joint_words}
+use Rattle.eco_issued_laws.specs.Printing.{spaced}
+use Rattle.eco_issued_laws.specs.Issued.{joint_words}
 use Rattle.eco_overlay.specs.PinMoves.{moved_pin}
 use Rattle.eco_overlay.proofs.statement.put_pins.Given as goal
 

@@ -2,10 +2,10 @@ use Rattle.std.proofs.Common.{◌++◌, [], ◌∷◌, map, ap, sym, ◌∙◌, 
 use Rattle.std.specs.List.{flat_map}
 use Rattle.std.proofs.lemmas.List.Folds.{flat_map-map}
 use Rattle.eco_def.specs.View.{joint_in, net_in}
-use Rattle.eco_issued.specs.Printing.{spaced}
-use Rattle.eco_issued.specs.Changes.{stays_on}
-use Rattle.eco_issued.specs.Issued.{kept_text, joint_words, tail_text}
-use Rattle.eco_full.specs.Stated.{word_bytes}
+use Rattle.eco_issued_laws.specs.Printing.{spaced}
+use Rattle.eco_issued_laws.specs.Changes.{stays_on}
+use Rattle.eco_issued_laws.specs.Issued.{kept_text, joint_words, tail_text}
+use Rattle.eco_text.specs.Cursor.{word_bytes}
 use Rattle.eco_overlay.specs.PinMoves.{new_joint, moved_pin}
 use Rattle.eco_overlay.specs.NetChanges.{pins_for}
 use Rattle.eco_overlay.proofs.Writing.{on_ok, put_four, spaced_pins}

@@ -1,5 +1,5 @@
 use Rattle.std.proofs.Common.{take, Ok}
-use Rattle.eco_text.specs.declared.failed.Failed.{Failed}
+use Rattle.eco_common.specs.declared.failed.Failed.{Failed}
 use Rattle.eco_text.specs.Writing.{joined}
 use Rattle.eco_text.specs.Writing.{Writes}
 use Rattle.eco_text.proofs.pieces.write_pieces.Given as goal

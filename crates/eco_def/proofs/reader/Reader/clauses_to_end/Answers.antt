@@ -2,7 +2,7 @@ use Rattle.std.proofs.Common.{[], ◌∷◌, ◌++◌, refl, not, codes, List, �
 use Rattle.std.proofs.lemmas.Result.{err_from_is_err_and}
 use Rattle.eco_def.specs.declared.pin_clause.PinClauses.{PinClauses}
 use Rattle.eco_def.specs.Grammar.{PinClause, pin_clause}
-use Rattle.eco_def.specs.Parsing.{is_word}
+use Rattle.eco_text.specs.Tokens.{is_word}
 use Rattle.eco_def.specs.TopPins.{clause_in}
 use Rattle.eco_def.proofs.Loops.{begun, one_more, stuck, ended}
 use Rattle.eco_def.proofs.PinClauses.{kept_more}

@@ -1,6 +1,7 @@
 use Rattle.std.proofs.Common.{List, codes, not}
 use Rattle.eco_def.specs.Grammar.{PinClause, pin_clause}
-use Rattle.eco_def.specs.Parsing.{is_word, size}
+use Rattle.eco_text.specs.Tokens.{is_word}
+use Rattle.eco_def.specs.Parsing.{size}
 use Rattle.eco_def.specs.Reading.{left}
 use Rattle.eco_def.specs.TopPins.{AreKept}
 use Rattle.eco_def.proofs.Loops.{Loops}

@@ -1,5 +1,5 @@
 use Rattle.std.proofs.Common.{[], ◌∷◌, ◌++◌, sym, not, ◌∙◌, codes}
-use Rattle.eco_def.specs.Parsing.{is_word}
+use Rattle.eco_text.specs.Tokens.{is_word}
 use Rattle.eco_def.specs.Grammar.{comp_clause}
 use Rattle.eco_def.specs.Reading.{as_is}
 use Rattle.eco_def.proofs.Loops.{one_more, first_some-push}

@@ -1,7 +1,9 @@
-use Rattle.std.proofs.Common.{◌≡◌, ℕ, List, map, codes}
-use Rattle.eco_def.specs.Parsing.{is_word, is_among, size}
-use Rattle.eco_def.specs.Limits.{comp_within}
-use Rattle.eco_def.specs.Known.{knows}
+use Rattle.std.proofs.Common.{◌≡◌, ℕ, List, map, codes, Some}
+use Rattle.eco_def.specs.Parsing.{size}
+use Rattle.eco_def.specs.Grammar.{most_statements, comp_within}
+use Rattle.eco_text.specs.Tokens.{is_word}
+use Rattle.eco_common.specs.NameBytes.{is_among}
+use Rattle.eco_common.specs.KnownNames.{knows}
 use Rattle.eco_def.specs.View.{comp_in}
 use Rattle.eco_def.specs.Reading.{left}
 use Rattle.eco_def.proofs.Loops.{Loops}
@@ -11,7 +13,7 @@ use Rattle.eco_def.proofs.reader.Reader.comps.Given as goal
 abbrev pub invariant-comps : goal.invariant-comps
 invariant-comps l =
     ((q : List ℕ) → knows l.names q ≡ is_among (map (λ c. c.name.bytes) (map (comp_in l.initial.self.text) l.comps)) q)
-    × Loops (is_word (codes "-")) comp_within l.initial.self (map (comp_in l.initial.self.text) l.comps) l.self
+    × Loops (is_word (codes "-")) (comp_within (Some most_statements)) l.initial.self (map (comp_in l.initial.self.text) l.comps) l.self
 
 abbrev pub decreases-comps : goal.decreases-comps
 decreases-comps l = size (left l.self)

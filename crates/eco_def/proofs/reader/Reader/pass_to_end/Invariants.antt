@@ -1,5 +1,6 @@
 use Rattle.std.proofs.Common.{◌≡◌, ◌≤◌, ℕ, codes}
-use Rattle.eco_def.specs.Parsing.{is_word, pass_to_both, size}
+use Rattle.eco_text.specs.Tokens.{is_word}
+use Rattle.eco_def.specs.Parsing.{pass_to_both, size}
 use Rattle.eco_def.specs.Reading.{left, IsInOrder}
 use Rattle.eco_def.proofs.PassedOver.{pass_on_from}
 use Rattle.eco_def.proofs.reader.Reader.pass_to_end.Given as goal

@@ -1,7 +1,8 @@
 use Rattle.std.proofs.Common.{[], List, ℕ, sym, ◌∙◌, codes}
 use Rattle.eco_def.specs.declared.pin_clause.PinClauses.{PinClauses}
 use Rattle.eco_def.specs.Grammar.{PinClause, pin_clause, pin_clauses}
-use Rattle.eco_def.specs.Parsing.{is_word, many_until}
+use Rattle.eco_text.specs.Tokens.{is_word}
+use Rattle.eco_def.specs.Parsing.{many_until}
 use Rattle.eco_def.specs.Reading.{left}
 use Rattle.eco_def.proofs.PassedOver.{reads_as, stays_refused}
 use Rattle.eco_def.proofs.PinClauses.{clauses_refused, clauses_read}

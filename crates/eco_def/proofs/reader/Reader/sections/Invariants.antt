@@ -1,7 +1,8 @@
-use Rattle.std.proofs.Common.{List, codes, not}
+use Rattle.std.proofs.Common.{List, Some, codes, not}
 use Rattle.eco_def.specs.Design.{Part}
-use Rattle.eco_def.specs.Parsing.{is_word, size}
-use Rattle.eco_def.specs.Limits.{part_within}
+use Rattle.eco_def.specs.Parsing.{size}
+use Rattle.eco_def.specs.Grammar.{whole_room, part_within}
+use Rattle.eco_text.specs.Tokens.{is_word}
 use Rattle.eco_def.specs.Reading.{left}
 use Rattle.eco_def.specs.Sections.{AreOf, SectionsLie}
 use Rattle.eco_def.proofs.Loops.{Loops}
@@ -11,7 +12,7 @@ use Rattle.eco_def.proofs.reader.Reader.sections.Given as goal
 abbrev pub invariant-parts : goal.invariant-parts
 invariant-parts l =
     (ps : List Part) × AreOf l.initial.self.text l.sections ps
-    × Loops (λ w. not (is_word (codes "END") w)) part_within l.initial.self ps l.self
+    × Loops (λ w. not (is_word (codes "END") w)) (part_within (Some whole_room)) l.initial.self ps l.self
     × SectionsLie l.initial.self l.self l.sections
 
 abbrev pub decreases-parts : goal.decreases-parts

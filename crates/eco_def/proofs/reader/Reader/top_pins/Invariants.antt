@@ -1,7 +1,9 @@
-use Rattle.std.proofs.Common.{◌≡◌, ℕ, List, map, codes}
-use Rattle.eco_def.specs.Parsing.{is_word, is_among, size}
-use Rattle.eco_def.specs.Limits.{top_pin_within}
-use Rattle.eco_def.specs.Known.{knows}
+use Rattle.std.proofs.Common.{◌≡◌, ℕ, List, map, codes, Some}
+use Rattle.eco_def.specs.Parsing.{size}
+use Rattle.eco_def.specs.Grammar.{most_statements, top_pin_within}
+use Rattle.eco_text.specs.Tokens.{is_word}
+use Rattle.eco_common.specs.NameBytes.{is_among}
+use Rattle.eco_common.specs.KnownNames.{knows}
 use Rattle.eco_def.specs.View.{pin_in}
 use Rattle.eco_def.specs.Reading.{left}
 use Rattle.eco_def.proofs.Loops.{Loops}
@@ -11,7 +13,7 @@ use Rattle.eco_def.proofs.reader.Reader.top_pins.Given as goal
 abbrev pub invariant-pins : goal.invariant-pins
 invariant-pins l =
     ((q : List ℕ) → knows l.names q ≡ is_among (map (λ p. p.name.bytes) (map (pin_in l.initial.self.text) l.pins)) q)
-    × Loops (is_word (codes "-")) top_pin_within l.initial.self (map (pin_in l.initial.self.text) l.pins) l.self
+    × Loops (is_word (codes "-")) (top_pin_within (Some most_statements)) l.initial.self (map (pin_in l.initial.self.text) l.pins) l.self
 
 abbrev pub decreases-pins : goal.decreases-pins
 decreases-pins l = size (left l.self)

@@ -1,7 +1,8 @@
 use Rattle.std.proofs.Common.{[], ◌∷◌, ◌++◌, ap, refl, sym, not, subst, ◌∙◌, codes, is_some, Ok}
 use Rattle.std.specs.Option.{option_or}
 use Rattle.eco_text.specs.Cursor.{token}
-use Rattle.eco_def.specs.Parsing.{is_word, first_some}
+use Rattle.eco_text.specs.Tokens.{is_word}
+use Rattle.eco_common.specs.Options.{first_some}
 use Rattle.eco_def.specs.Grammar.{net_clause, net_clause_new}
 use Rattle.eco_def.specs.View.{usage_in}
 use Rattle.eco_def.specs.Reading.{Reads}

@@ -1,6 +1,8 @@
 use Rattle.std.proofs.Common.{◌≡◌, List, Option, codes, not}
 use Rattle.eco_text.specs.Words.{Token}
-use Rattle.eco_def.specs.Parsing.{is_word, first_some, size}
+use Rattle.eco_text.specs.Tokens.{is_word}
+use Rattle.eco_common.specs.Options.{first_some}
+use Rattle.eco_def.specs.Parsing.{size}
 use Rattle.eco_def.specs.Grammar.{net_clause}
 use Rattle.eco_def.specs.View.{usage_in}
 use Rattle.eco_def.specs.Reading.{left}

@@ -8,9 +8,9 @@ use Rattle.eco_disk.proofs.tape.Tape.cut.Goals as goal
 pub invariant_of-self : goal.invariant_of-self
 invariant_of-self c =
     let t = c.args.self.now in
-    record { replayed = plays_replayed c.args.listed (call.Cut c.args.len) t.contents c.play_cut.new.contents t.calls.items c.play_cut.new.calls.items c.play_cut.result c.play_cut.ensures t.replayed }
+    record { replayed = plays_replayed c.args.injected (call.Cut c.args.len) t.contents c.play_cut.new.contents t.calls.items c.play_cut.new.calls.items c.play_cut.result c.play_cut.ensures t.replayed }
 
 pub returns-clause-crash : goal.returns-clause-crash
 returns-clause-crash c =
     let t = c.args.self.now in
-    plays_pass c.args.listed (call.Cut c.args.len) t.contents c.play_cut.new.contents t.calls.items c.play_cut.new.calls.items (Cut c.args.len) (cut_refl c.args.len) (cut_steps t.calls.items (first_of t.contents) c.args.len) c.play_cut.result c.play_cut.ensures
+    plays_pass c.args.injected (call.Cut c.args.len) t.contents c.play_cut.new.contents t.calls.items c.play_cut.new.calls.items (Cut c.args.len) (cut_refl c.args.len) (cut_steps t.calls.items (first_of t.contents) c.args.len) c.play_cut.result c.play_cut.ensures

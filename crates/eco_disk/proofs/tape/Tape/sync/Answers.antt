@@ -8,14 +8,14 @@ use Rattle.eco_disk.proofs.tape.Tape.sync.Goals as goal
 pub invariant_of-self : goal.invariant_of-self
 invariant_of-self c =
     let t = c.args.self.now in
-    record { replayed = plays_replayed c.args.listed (Sync) t.contents c.play_sync.new.contents t.calls.items c.play_sync.new.calls.items c.play_sync.result c.play_sync.ensures t.replayed }
+    record { replayed = plays_replayed c.args.injected (Sync) t.contents c.play_sync.new.contents t.calls.items c.play_sync.new.calls.items c.play_sync.result c.play_sync.ensures t.replayed }
 
 pub returns-clause-crash : goal.returns-clause-crash
 returns-clause-crash c =
     let t = c.args.self.now in
-    plays_pass c.args.listed (Sync) t.contents c.play_sync.new.contents t.calls.items c.play_sync.new.calls.items (Same) (λ x. refl) (sync_steps t.calls.items (first_of t.contents)) c.play_sync.result c.play_sync.ensures
+    plays_pass c.args.injected (Sync) t.contents c.play_sync.new.contents t.calls.items c.play_sync.new.calls.items (Same) (λ x. refl) (sync_steps t.calls.items (first_of t.contents)) c.play_sync.result c.play_sync.ensures
 
 pub returns-clause-kept : goal.returns-clause-kept
 returns-clause-kept c =
     let t = c.args.self.now in
-    plays_kept c.args.listed t.contents c.play_sync.new.contents t.calls.items c.play_sync.new.calls.items c.play_sync.result c.play_sync.ensures t.replayed
+    plays_kept c.args.injected t.contents c.play_sync.new.contents t.calls.items c.play_sync.new.calls.items c.play_sync.result c.play_sync.ensures t.replayed

@@ -12,9 +12,9 @@ invariant_of-self g c =
 pub returns-in_err-cut_kept-clause-crash : goal.returns-in_err-cut_kept-clause-crash
 returns-in_err-cut_kept-clause-crash g c digest payloads last sound =
     let p = err_from_is_err_and c.from_residual.result c.from_residual.ensures.1 in
-    let s = subst (λ v. IsSound digest payloads last (g.D.Disk.contents c.args.self.now.disk) (g.D.Disk.image c.args.self.now.disk (g.D.Disk.moment c.args.self.now.disk)) c.args.self.now.gate v) c.requires sound in
+    let s = subst (λ v. IsSound digest payloads last (g.D.Disk.contents c.args.self.now.disk) (g.D.Disk.image c.args.self.now.disk (g.D.Disk.moment c.args.self.now.disk)) c.args.self.now.gate v) c.requires sound.is in
     let first = cropped s c.cut_kept.ensures.contents c.cut_kept.ensures.crash in
-    rw (p.1, c.requires) (record { any_moment = first.0; sound = first.1; mended = tt })
+    rw (p.1, c.requires) (record { any_moment = first.0; sound = record { is = first.1 }; mended = tt })
 
 pub invariant_of-self-2 : goal.invariant_of-self-2
 invariant_of-self-2 g c =
@@ -22,7 +22,7 @@ invariant_of-self-2 g c =
 
 pub returns-clause-crash : goal.returns-clause-crash
 returns-clause-crash g c digest payloads last sound =
-    let s = subst (λ v. IsSound digest payloads last (g.D.Disk.contents c.args.self.now.disk) (g.D.Disk.image c.args.self.now.disk (g.D.Disk.moment c.args.self.now.disk)) c.args.self.now.gate v) c.requires sound in
+    let s = subst (λ v. IsSound digest payloads last (g.D.Disk.contents c.args.self.now.disk) (g.D.Disk.image c.args.self.now.disk (g.D.Disk.moment c.args.self.now.disk)) c.args.self.now.gate v) c.requires sound.is in
     let first = cropped s c.cut_kept.ensures.contents c.cut_kept.ensures.crash in
     let done = trimmed s c.in_ok-cut_kept.ensures.cut c.in_ok-cut_kept.ensures.kept in
-    record { any_moment = leaves_as digest payloads last c.args.self.now.standing Behind c.requires first.0; sound = done; mended = settled_stores done }
+    record { any_moment = leaves_as digest payloads last c.args.self.now.standing Behind c.requires first.0; sound = record { is = done }; mended = settled_stores done }

@@ -1,5 +1,5 @@
 use Rattle.std.proofs.Common.{is_some, ap, ◌∙◌}
-use Rattle.eco_lef.specs.Parsing.{is_among}
+use Rattle.eco_common.specs.NameBytes.{is_among}
 use Rattle.eco_lef.specs.Known.{names_of}
 use Rattle.eco_lef.proofs.Naming.{known_among}
 use Rattle.eco_lef.proofs.library.Library.has.Goals as goal

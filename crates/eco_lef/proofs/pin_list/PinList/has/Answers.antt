@@ -1,5 +1,5 @@
 use Rattle.std.proofs.Common.{is_some, ap, ◌∙◌}
-use Rattle.eco_lef.specs.Parsing.{is_among}
+use Rattle.eco_common.specs.NameBytes.{is_among}
 use Rattle.eco_lef.specs.Known.{pin_names}
 use Rattle.eco_lef.proofs.Naming.{known_among}
 use Rattle.eco_lef.proofs.pin_list.PinList.has.Goals as goal

@@ -3,7 +3,8 @@ use Rattle.std.proofs.lemmas.Result.{err_from_is_err_and}
 use Rattle.eco_lef.specs.declared.master.MasterPin.{MasterPin}
 use Rattle.eco_lef.specs.declared.macro_statements.MacroBody.{MacroBody}
 use Rattle.eco_lef.specs.Known.{pin_names}
-use Rattle.eco_lef.specs.Parsing.{is_among, give}
+use Rattle.eco_common.specs.NameBytes.{is_among}
+use Rattle.eco_lef.specs.Parsing.{give}
 use Rattle.eco_lef.specs.Reading.{left, Refuses, as_is}
 use Rattle.eco_lef.specs.Grammar.{macro_statement, macro_statement_new, macro_said}
 use Rattle.eco_lef.specs.Collected.{also_in_macro}

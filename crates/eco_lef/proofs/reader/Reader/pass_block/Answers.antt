@@ -1,6 +1,7 @@
 use Rattle.std.proofs.Common.{◌≡◌, false, refl, sym, arith, ◌∙◌}
 use Rattle.std.proofs.lemmas.Result.{err_from_is_err_and}
-use Rattle.eco_lef.specs.Parsing.{begins, is_word}
+use Rattle.eco_lef.specs.Parsing.{begins}
+use Rattle.eco_text.specs.Tokens.{is_word}
 use Rattle.eco_lef.specs.Reading.{left}
 use Rattle.eco_lef.proofs.Passing.{block_goes_on, block_fails, not_ended}
 use Rattle.eco_lef.proofs.reader.Reader.pass_block.Goals as goal

@@ -1,5 +1,6 @@
 use Rattle.std.proofs.Common.{◌≡◌, ◌+◌, ◌≤◌}
-use Rattle.eco_lef.specs.Parsing.{any, choose, is_word, word_count}
+use Rattle.eco_lef.specs.Parsing.{any, choose, word_count}
+use Rattle.eco_text.specs.Tokens.{is_word}
 use Rattle.eco_lef.specs.Grammar.{pass_block}
 use Rattle.eco_lef.specs.Reading.{left}
 use Rattle.eco_lef.proofs.reader.Reader.pass_block.Given as goal

@@ -1,5 +1,6 @@
 use Rattle.std.proofs.Common.{◌≡◌, ◌≤◌}
-use Rattle.eco_lef.specs.Parsing.{is_word, pass_to, word_count}
+use Rattle.eco_text.specs.Tokens.{is_word}
+use Rattle.eco_lef.specs.Parsing.{pass_to, word_count}
 use Rattle.eco_lef.specs.Reading.{left}
 use Rattle.eco_lef.proofs.reader.Reader.pass_to.Given as goal
 

@@ -1,7 +1,8 @@
 use Rattle.std.proofs.Common.{false, ap, ◌∙◌}
 use Rattle.eco_text.specs.Cursor.{token}
 use Rattle.eco_lef.specs.Known.{pin_names}
-use Rattle.eco_lef.specs.Parsing.{is_among, unused_name, new_name}
+use Rattle.eco_common.specs.NameBytes.{is_among}
+use Rattle.eco_lef.specs.Parsing.{unused_name, new_name}
 use Rattle.eco_lef.specs.Reading.{left}
 use Rattle.eco_lef.proofs.Telling.{reads_as}
 use Rattle.eco_lef.proofs.reader.Reader.pin_name.Goals as goal

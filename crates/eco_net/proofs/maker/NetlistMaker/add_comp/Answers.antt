@@ -1,5 +1,6 @@
 use Rattle.std.proofs.Common.{◌∙◌, ap, ◌≡◌, ◌<◌, sym, length, None, subst, replicate, refl}
 use Rattle.std.specs.FinMap.{get}
+use Rattle.eco_common.specs.declared.limits.TheConstants.{MAX_LISTED_COMPS}
 use Rattle.eco_net.specs.declared.rows.CompRow.{CompRow}
 use Rattle.eco_net.specs.Netlist.{pins_of}
 use Rattle.eco_net.specs.Listing.{Listing, netlist, kind_of}
@@ -12,7 +13,7 @@ pub invariant_of-self-2 : goal.invariant_of-self-2
 invariant_of-self-2 c =
     let L : Listing = record { nets = c.self.inside.nets.items; comps = c.self.inside.comps.items; tops = c.self.inside.tops.items; reserved = c.self.inside.reserved.items } in
     let new : get (netlist L).comps c.args.name.now ≡ None = subst (λ (M : Listing). get (netlist M).comps c.args.name.now ≡ None) (sym c.self.view_is) c.requires.new_name in
-    let few : length L.comps < 1100000 = subst (λ (M : Listing). length M.comps < 1100000) (sym c.self.view_is) c.requires.few in
+    let few : length L.comps < MAX_LISTED_COMPS = subst (λ (M : Listing). length M.comps < MAX_LISTED_COMPS) (sym c.self.view_is) c.requires.few in
     let row : CompRow = record { name = c.args.name.now; kind = c.args.kind; place = c.args.place; joined = replicate (length (pins_of (kind_of c.args.kind))) None } in
     rw (c.push_reserved.ensures.items, c.in_ok-reserve.ensures.items, c.in_ok-insert.ensures.ok, c.in_ok-of.ensures, c.len-number.ensures, c.self.inside.comps.ok.0, c.in_ok-joined.ensures, c.pin_count.ensures.count)
     (comp_added L _ _ _ c.self.invariant row new few (row_of_none (length L.nets) row (c.pin_count.ensures.is_kind c.requires.own_pins) (length (pins_of (kind_of c.args.kind))) refl refl))

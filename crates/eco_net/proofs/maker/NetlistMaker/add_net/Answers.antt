@@ -1,5 +1,6 @@
 use Rattle.std.proofs.Common.{◌∙◌, ap, ◌≡◌, ◌<◌, sym, false, length, None, subst}
 use Rattle.std.specs.FinMap.{get}
+use Rattle.eco_common.specs.declared.limits.TheConstants.{MAX_LISTED_NETS}
 use Rattle.eco_net.specs.Listing.{Listing, netlist}
 use Rattle.eco_net.specs.Changes.{with_net}
 use Rattle.eco_net.proofs.Added.{net_added}
@@ -10,7 +11,7 @@ pub invariant_of-self-2 : goal.invariant_of-self-2
 invariant_of-self-2 c =
     let L : Listing = record { nets = c.self.inside.nets.items; comps = c.self.inside.comps.items; tops = c.self.inside.tops.items; reserved = c.self.inside.reserved.items } in
     let new : get (netlist L).nets c.args.name.now ≡ None = subst (λ (M : Listing). get (netlist M).nets c.args.name.now ≡ None) (sym c.self.view_is) c.requires.new_name in
-    let few : length L.nets < 9000000 = subst (λ (M : Listing). length M.nets < 9000000) (sym c.self.view_is) c.requires.few in
+    let few : length L.nets < MAX_LISTED_NETS = subst (λ (M : Listing). length M.nets < MAX_LISTED_NETS) (sym c.self.view_is) c.requires.few in
     rw (c.push_reserved.ensures.items, c.in_ok-reserve.ensures.items, c.in_ok-insert.ensures.ok, c.in_ok-of.ensures, c.len-number.ensures, c.self.inside.nets.ok.0)
     (net_added L _ _ _ c.self.invariant (record { name = c.args.name.now; supply = c.args.supply; tie = false }) new few)
 

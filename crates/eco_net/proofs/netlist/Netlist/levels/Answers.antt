@@ -27,7 +27,7 @@ pub returns-in_ok-depth-in-Ok-clause-ok : goal.returns-in_ok-depth-in-Ok-clause-
 returns-in_ok-depth-in-Ok-clause-ok c =
     let L = c.args.self.now in
     let o : IsOrder L c.in-Ok.order.items = c.in-Ok.ensures.ok in
-    record { ordered = o; loop_free = order_loop_free L c.counts-counts.ensures.listing c.in-Ok.order.items o; depth = c.in_ok-depth-in-Ok.ensures }
+    record { ordered = o; loop_free = order_loop_free L c.facts.ensures.listing c.in-Ok.order.items o; depth = c.in_ok-depth-in-Ok.ensures }
 
 pub returns-in_ok-nets-in-Err-Ring-clause-stop : goal.returns-in_ok-nets-in-Err-Ring-clause-stop
 returns-in_ok-nets-in-Err-Ring-clause-stop c =
@@ -37,4 +37,4 @@ returns-in_ok-nets-in-Err-Ring-clause-stop c =
     let l : IsLeastAt L.nets c.in-Err-Ring.ring.items (length c.in-Err-Ring.ring.items) c.least-first.result = subst (λ (xs : List ℕ). IsLeastAt L.nets xs (length xs) c.least-first.result) c.deref-in-Err-Ring.ensures.value c.least-first.ensures in
     subst (IsClosedWalk (netlist L)) (sym c.in_ok-nets-in-Err-Ring.ensures)
     (subst (λ (xs : List ℕ). IsClosedWalk (netlist L) (map (net_name L.nets) (drop c.least-first.result xs ++ take c.least-first.result xs))) (sym d)
-    (closed_walk L c.counts-counts.ensures.listing c.in-Err-Ring.ring.items c.least-first.result r l))
+    (closed_walk L c.facts.ensures.listing c.in-Err-Ring.ring.items c.least-first.result r l))

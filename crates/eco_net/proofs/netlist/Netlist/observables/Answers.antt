@@ -24,4 +24,4 @@ returns c =
     (c.in_ok-add_comps.ensures
     ∙ ap (λ (xs : List PinRef). xs ++ boxes) (c.in_ok-add_tops.ensures ∙ ap (λ (xs : List PinRef). xs ++ tops) c.new-found.ensures.items))
     ∙ append_assoc tops boxes gates in
-    subst (ArePins L (observed_order L) (IsObservable (netlist L))) (sym found) (seen_are L c.counts-listing.ensures.listing)
+    subst (ArePins L (observed_order L) (IsObservable (netlist L))) (sym found) (seen_are L c.facts.ensures.listing)

@@ -20,7 +20,7 @@ use Rattle.eco_net.proofs.netlist.Netlist.value_all.Goals as goal
 use Rattle.eco_net.proofs.netlist.Netlist.value_all.Goals.{in-Some, in_default}
 
 pub returns-in_err-bits-clause-choice : goal.returns-in_err-bits-clause-choice
-returns-in_err-bits-clause-choice c = is_choice c.args.self.now c.counts-counts.ensures.listing c.args.cut.now c.requires.bits
+returns-in_err-bits-clause-choice c = is_choice c.args.self.now c.facts.ensures.listing c.args.cut.now c.requires.bits
 
 pub loop-net-init : goal.loop-net-init
 loop-net-init c =
@@ -45,7 +45,7 @@ gate_of-requires c =
 
 pub output_value-value-requires-clause-known : goal.output_value-value-requires-clause-known
 output_value-value-requires-clause-known c =
-    gate_known c.args.self.now c.counts-counts.ensures.listing (get_or c.deref-net-items.result.now c.loop-net.net-index 0) (c.in-Some.comp, c.in-Some.pin) (sym c.gate_of.ensures ∙ c.in-Some.is)
+    gate_known c.args.self.now c.facts.ensures.listing (get_or c.deref-net-items.result.now c.loop-net.net-index 0) (c.in-Some.comp, c.in-Some.pin) (sym c.gate_of.ensures ∙ c.in-Some.is)
 
 pub output_value-value-requires-clause-sized : goal.output_value-value-requires-clause-sized
 output_value-value-requires-clause-sized c = ap length c.deref-in-Some.ensures.value ∙ c.loop-net.invariant.sized
@@ -80,7 +80,7 @@ loop-net-preserved c =
     ]
 
 pub returns-clause-choice : goal.returns-clause-choice
-returns-clause-choice c = is_choice c.args.self.now c.counts-counts.ensures.listing c.args.cut.now c.requires.bits
+returns-clause-choice c = is_choice c.args.self.now c.facts.ensures.listing c.args.cut.now c.requires.bits
 
 valued_by : (c : goal.After-loop-net) → IsValued c.args.self.now c.args.cut.now c.loop-net.bits.items
 valued_by c =
@@ -97,12 +97,12 @@ valued_by c =
     }
 
 pub returns-clause-valuation : goal.returns-clause-valuation
-returns-clause-valuation c = valued c.args.self.now c.counts-counts.ensures.listing c.args.cut.now c.loop-net.bits.items c.requires.bits (valued_by c)
+returns-clause-valuation c = valued c.args.self.now c.facts.ensures.listing c.args.cut.now c.loop-net.bits.items c.requires.bits (valued_by c)
 
 pub returns-clause-only : goal.returns-clause-only
 returns-clause-only c = λ v is.
     let L = c.args.self.now in
-    one_of (netlist L) (cut_bits L c.args.cut.now) (valuation L c.loop-net.bits.items) v c.requires.levels.loop_free (valued L c.counts-counts.ensures.listing c.args.cut.now c.loop-net.bits.items c.requires.bits (valued_by c)) is
+    one_of (netlist L) (cut_bits L c.args.cut.now) (valuation L c.loop-net.bits.items) v c.requires.levels.loop_free (valued L c.facts.ensures.listing c.args.cut.now c.loop-net.bits.items c.requires.bits (valued_by c)) is
 
 pub returns-clause-each_net : goal.returns-clause-each_net
 returns-clause-each_net c = c.loop-net.invariant.sized
@@ -112,5 +112,5 @@ returns-clause-named c = λ n b e.
     let L = c.args.self.now in
     let vs = c.loop-net.bits.items in
     let r = at_place L.nets n (omega (arith, slice_get_within vs n b e, c.loop-net.invariant.sized)) in
-    ap (get (valuation L vs)) (net_name_is L c.counts-counts.ensures.listing n r.0 r.1)
-    ∙ value_at L c.counts-counts.ensures.listing vs c.loop-net.invariant.sized n r.0 b r.1 e
+    ap (get (valuation L vs)) (net_name_is L c.facts.ensures.listing n r.0 r.1)
+    ∙ value_at L c.facts.ensures.listing vs c.loop-net.invariant.sized n r.0 b r.1 e

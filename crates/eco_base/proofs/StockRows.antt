@@ -1,0 +1,165 @@
+-- The stock by the rows of a listing is that by the names of the design.
+use Rattle.std.proofs.Common.{◌≡◌, ℕ, zero, suc, ◌+◌, Bool, true, false, cond, not, ◌&&◌, List, [], ◌∷◌, map, Option, Some, None, count_by, slice_get, refl, sym, ap, ◌∙◌, subst, inl, inr, ⊎_elim, ◌⊎◌, true≢false, if◌then◌else◌}
+use Rattle.std.specs.List.{All, AllZip, Contains, filter, list_all}
+use Rattle.std.specs.Option.{option_map}
+use Rattle.std.specs.FinMap.{get}
+use Rattle.std.proofs.lemmas.List.Sums.{sum_by-cons}
+use Rattle.std.proofs.lemmas.List.Elements.{All-nil, All-cons, All-head, All-tail}
+use Rattle.eco_common.specs.declared.geometry.Point.{Point}
+use Rattle.eco_func.specs.Masters.{MasterTables}
+use Rattle.eco_net.specs.Netlist.{Name, Netlist, Component}
+use Rattle.eco_net.specs.declared.kind.Kind.{Kind as Given}
+use Rattle.eco_net.specs.declared.kind.Kind.TheVariants.{Gate}
+use Rattle.eco_net.specs.declared.rows.CompRow.{CompRow}
+use Rattle.eco_net.specs.Listing.{Listing, netlist, component, kind_of, comp_names as listed_names}
+use Rattle.eco_net.specs.Kept.{IsListing}
+use Rattle.eco_net.proofs.Basics.{Has, same_Some, same_head, not_None}
+use Rattle.eco_net.proofs.GateNames.{has_at, at_has}
+use Rattle.eco_net.proofs.Named.{comp_is}
+use Rattle.eco_elaborate.proofs.Members.{of_filter}
+use Rattle.eco_desk_file.specs.Desk.{is_spare_named}
+use Rattle.eco_base.specs.declared.stock.Spare.{Spare}
+use Rattle.eco_base.specs.Stock.{is_gate, is_idle, is_stock}
+use Rattle.eco_base.specs.Found.{is_stock_row, is_skipped_row, place_in_row, place_of_spare}
+use Rattle.eco_base.specs.Texts.{TextParts}
+use Rattle.eco_base.specs.Stocks.{listed_netlist, is_stock_at, is_in_stock, stock_names, is_skipped, IsSpareOf}
+use Rattle.eco_base.specs.Joined.{comp_names}
+use Rattle.eco_base.specs.Stocked.{IsGateRow}
+
+-- ---- lists
+
+filter_mapped : {A B : Type 0} (f : A → B) (P : B → Bool) (Q : A → Bool) (xs : List A) → ((x : A) → Has xs x → P (f x) ≡ Q x) → map f (filter Q xs) ≡ filter P (map f xs)
+filter_mapped f P Q [] e = refl
+filter_mapped f P Q (x ∷ xs) e = at (filter_mapped f P Q xs (λ y h. e y (inr h))) (Q x) ∙ ap (λ b. if b then f x ∷ filter P (map f xs) else filter P (map f xs)) (sym (e x (inl refl)))
+  where
+    at : map f (filter Q xs) ≡ filter P (map f xs) → (b : Bool) → map f (if b then x ∷ filter Q xs else filter Q xs) ≡ (if b then f x ∷ filter P (map f xs) else filter P (map f xs))
+    at rest true = ap (λ ys. f x ∷ ys) rest
+    at rest false = rest
+
+pub count_mapped : {A B : Type 0} (f : A → B) (P : B → Bool) (Q : A → Bool) (xs : List A) → ((x : A) → Has xs x → P (f x) ≡ Q x) → count_by Q xs ≡ count_by P (map f xs)
+count_mapped f P Q [] e = refl
+count_mapped f P Q (x ∷ xs) e =
+    sum_by-cons (λ y. cond (Q y) 1 0) x xs
+    ∙ ap (λ b. cond b 1 0 + count_by Q xs) (sym (e x (inl refl)))
+    ∙ ap (λ n. cond (P (f x)) 1 0 + n) (count_mapped f P Q xs (λ y h. e y (inr h)))
+    ∙ sym (sum_by-cons (λ y. cond (P y) 1 0) (f x) (map f xs))
+
+pub map_twice : {A B C : Type 0} (g : B → C) (f : A → B) (xs : List A) → map g (map f xs) ≡ map (λ x. g (f x)) xs
+map_twice g f [] = refl
+map_twice g f (x ∷ xs) = ap (λ ys. g (f x) ∷ ys) (map_twice g f xs)
+
+same_tail : {A : Type 0} {x y : A} {xs ys : List A} → x ∷ xs ≡ y ∷ ys → xs ≡ ys
+same_tail {A = A} {xs = xs} e = ap rest e
+  where
+    rest : List A → List A
+    rest [] = xs
+    rest (z ∷ zs) = zs
+
+not_nil : {A : Type 0} {x : A} {xs : List A} → x ∷ xs ≡ [] → ⊥
+not_nil e = cc
+
+nil_not : {A : Type 0} {x : A} {xs : List A} → [] ≡ x ∷ xs → ⊥
+nil_not e = cc
+
+and_true : (a b : Bool) → (a && b) ≡ true → (a ≡ true) × (b ≡ true)
+and_true true b e = (refl, e)
+and_true false b e = absurd (true≢false (sym e))
+
+-- ---- a listing of the texts' netlist
+
+module _ (t : TextParts) (L : Listing) (is : IsListing L) (same : netlist L ≡ listed_netlist t) (names : listed_names L ≡ comp_names t) where
+  abbrev stock_row : CompRow → Bool
+  stock_row = is_stock_row t.desk L.nets
+
+  pub found : (r : CompRow) → Has L.comps r → get (listed_netlist t).comps r.name ≡ Some (component L.nets r)
+  found r h = let i = at_has L.comps r h in ap (λ (N : Netlist). get N.comps r.name) (sym same) ∙ comp_is L is i.0 r i.1
+
+  stock_at : (r : CompRow) → Has L.comps r → is_in_stock t r.name ≡ stock_row r
+  stock_at r h = ap (is_stock_at t.desk r.name) (found r h)
+
+  pub named_stock : map (λ (r : CompRow). r.name) (filter stock_row L.comps) ≡ stock_names t
+  named_stock = filter_mapped (λ (r : CompRow). r.name) (is_in_stock t) stock_row L.comps stock_at ∙ ap (filter (is_in_stock t)) names
+
+  pub skipped_is : count_by (is_skipped_row t.desk L.nets) L.comps ≡ count_by (is_skipped t) (comp_names t)
+  skipped_is =
+      count_mapped (λ (r : CompRow). r.name) (is_skipped t) (is_skipped_row t.desk L.nets) L.comps (λ r h. ap (λ b. is_spare_named t.desk.prefixes r.name && not b) (stock_at r h))
+      ∙ ap (count_by (is_skipped t)) names
+
+  -- ---- the spares that were found
+
+  abbrev SpareIs : CompRow → Spare → Type 0
+  SpareIs r s = (r.name ≡ s.name) × (r.place ≡ Some s.point)
+
+  abbrev AtNumber : Spare → Type 0
+  AtNumber s = slice_get (listed_names L) s.comp ≡ Some s.name
+
+  pair_is : (r : CompRow) (s : Spare) → place_of_spare s ≡ place_in_row r → SpareIs r s
+  pair_is r s e = (ap (λ (p : Name × Option Point). p.0) (sym e), ap (λ (p : Name × Option Point). p.1) (sym e))
+
+  row_at : (rows : List CompRow) (i : ℕ) (n : Name) → slice_get (map (λ (r : CompRow). r.name) rows) i ≡ Some n → (r : CompRow) × (slice_get rows i ≡ Some r) × (r.name ≡ n)
+  row_at [] i n e = absurd (not_None (sym e))
+  row_at (r ∷ rows) zero n e = (r, refl, same_Some e)
+  row_at (r ∷ rows) (suc i) n e = row_at rows i n e
+
+  -- the row of a spare's number is the component's
+  numbered : (r : CompRow) (s : Spare) → Has L.comps r → SpareIs r s → AtNumber s → (q : CompRow) × (slice_get L.comps s.comp ≡ Some q) × (kind_of q.kind ≡ kind_of r.kind)
+  numbered r s h of at =
+      let q = row_at L.comps s.comp s.name at in
+      let there = found q.0 (has_at L.comps s.comp q.0 q.1) in
+      let one : component L.nets q.0 ≡ component L.nets r = same_Some (sym there ∙ ap (get (listed_netlist t).comps) (q.2 ∙ sym of.0) ∙ found r h) in
+      (q.0, q.1, ap (λ (x : Component). x.kind) one)
+
+  gate_of : (r : CompRow) → stock_row r ≡ true → is_gate (kind_of r.kind) ≡ true
+  gate_of r e =
+      let named = and_true (is_spare_named t.desk.prefixes r.name) _ e in
+      let placed = and_true _ (is_idle t.desk (component L.nets r)) named.1 in
+      (and_true (is_gate (kind_of r.kind)) _ placed.1).0
+
+  gate_row : (r : CompRow) (s : Spare) → Has (filter stock_row L.comps) r → SpareIs r s → AtNumber s → IsGateRow (slice_get L.comps s.comp)
+  gate_row r s h of at =
+      let f = of_filter stock_row L.comps r h in
+      let q = numbered r s f.0 of at in
+      subst IsGateRow (sym q.1) (ap is_gate q.2 ∙ gate_of r f.1)
+
+  pub gate_rows : (rows : List CompRow) (spares : List Spare) → ((r : CompRow) → Has rows r → Has (filter stock_row L.comps) r) → map place_of_spare spares ≡ map place_in_row rows
+      → All AtNumber spares → All (λ (s : Spare). IsGateRow (slice_get L.comps s.comp)) spares
+  gate_rows rows [] in' e at = All-nil (λ (s : Spare). IsGateRow (slice_get L.comps s.comp))
+  gate_rows [] (s ∷ spares) in' e at = absurd (not_nil e)
+  gate_rows (r ∷ rows) (s ∷ spares) in' e at =
+      All-cons (λ (s : Spare). IsGateRow (slice_get L.comps s.comp)) s spares
+      (gate_row r s (in' r (inl refl)) (pair_is r s (same_head e)) (All-head AtNumber s spares at))
+      (gate_rows rows spares (λ q h. in' q (inr h)) (same_tail e) (All-tail AtNumber s spares at))
+
+  abbrev kind_at : Spare → Option Given
+  kind_at s = option_map (λ (r : CompRow). r.kind) (slice_get L.comps s.comp)
+
+  spare_of : (r : CompRow) (s : Spare) (f : MasterTables) → Has (filter stock_row L.comps) r → SpareIs r s → AtNumber s → Some (Gate f) ≡ kind_at s → IsSpareOf t s f
+  spare_of r s f h of at k =
+      let g = of_filter stock_row L.comps r h in
+      let q = numbered r s g.0 of at in
+      let kind : Gate f ≡ q.0.kind = same_Some (k ∙ ap (option_map (λ (r : CompRow). r.kind)) q.1) in
+      record {
+        comp = component L.nets r;
+        found = ap (get (listed_netlist t).comps) (sym of.0) ∙ found r g.0;
+        place = of.1;
+        function = sym q.2 ∙ ap kind_of (sym kind);
+      }
+
+  pub spares_of : (rows : List CompRow) (spares : List Spare) (fs : List MasterTables) → ((r : CompRow) → Has rows r → Has (filter stock_row L.comps) r) → map place_of_spare spares ≡ map place_in_row rows
+      → All AtNumber spares → map (λ f. Some (Gate f)) fs ≡ map kind_at spares → AllZip (IsSpareOf t) spares fs
+  spares_of rows [] [] in' e at k = tt
+  spares_of rows [] (f ∷ fs) in' e at k = absurd (not_nil k)
+  spares_of rows (s ∷ spares) [] in' e at k = absurd (nil_not k)
+  spares_of [] (s ∷ spares) (f ∷ fs) in' e at k = absurd (not_nil e)
+  spares_of (r ∷ rows) (s ∷ spares) (f ∷ fs) in' e at k = (
+    spare_of r s f (in' r (inl refl)) (pair_is r s (same_head e)) (All-head AtNumber s spares at) (same_head k),
+    spares_of rows spares fs (λ q h. in' q (inr h)) (same_tail e) (All-tail AtNumber s spares at) (same_tail k),
+  )
+
+  -- their names
+  pub stock_named : (spares : List Spare) → map place_of_spare spares ≡ map place_in_row (filter stock_row L.comps) → map (λ (s : Spare). s.name) spares ≡ stock_names t
+  stock_named spares e =
+      sym (map_twice (λ (p : Name × Option Point). p.0) place_of_spare spares)
+      ∙ ap (map (λ (p : Name × Option Point). p.0)) e
+      ∙ map_twice (λ (p : Name × Option Point). p.0) place_in_row (filter stock_row L.comps)
+      ∙ named_stock

@@ -1,5 +1,0 @@
-use Rattle.eco_base.proofs.Applying as applying
-use Rattle.eco_base.proofs.laws.one_gate_applies.Goals as goal
-
-pub returns : goal.returns
-returns c = applying.one_gate_applies

@@ -1,0 +1,51 @@
+-- The netlist of all components of a base's texts, and its stock.
+use Rattle.std.specs.Prelude.{◌≡◌, Bool, true, false, not, ◌&&◌, List, [], ◌∷◌, Option, Some, None}
+use Rattle.std.specs.List.{filter}
+use Rattle.std.specs.FinMap.{get}
+use Rattle.eco_func.specs.Masters.{MasterTables}
+use Rattle.eco_net.specs.Netlist.{Name, Netlist, Component}
+use Rattle.eco_net.specs.Listing.{kind_of}
+use Rattle.eco_net.specs.declared.kind.Kind.TheVariants.{Gate}
+use Rattle.eco_elaborate.specs.Netlists.{netlist_of}
+use Rattle.eco_desk_file.specs.Desk.{Desk, is_spare_named}
+use Rattle.eco_base.specs.declared.stock.Spare.{Spare}
+use Rattle.eco_base.specs.Ties.{tie_name, IsTieNet}
+use Rattle.eco_base.specs.Stock.{is_stock}
+use Rattle.eco_base.specs.Texts.{TextParts}
+use Rattle.eco_base.specs.Joined.{design_names, comp_names, kinds}
+
+-- ---- the netlist of all components
+
+-- its tie nets aside
+abbrev pub listed_netlist : TextParts → Netlist
+listed_netlist t = netlist_of (kinds t) [] (design_names t)
+
+abbrev pub full_netlist : TextParts → Netlist
+full_netlist t = netlist_of (kinds t) (t.desk.low ∷ t.desk.high ∷ []) (design_names t)
+
+abbrev pub IsTied : TextParts → Bool → Type 0
+IsTied t b = IsTieNet t.desk.prefixes (listed_netlist t) (tie_name t.desk b) b
+
+-- ---- the stock
+
+abbrev pub is_stock_at : Desk → Name → Option Component → Bool
+is_stock_at desk c None = false
+is_stock_at desk c (Some x) = is_stock desk c x
+
+abbrev pub is_in_stock : TextParts → Name → Bool
+is_in_stock t c = is_stock_at t.desk c (get (listed_netlist t).comps c)
+
+-- in the order of the design's text
+abbrev pub stock_names : TextParts → List Name
+stock_names t = filter (is_in_stock t) (comp_names t)
+
+-- spare-named, and no stock
+abbrev pub is_skipped : TextParts → Name → Bool
+is_skipped t c = is_spare_named t.desk.prefixes c && not (is_in_stock t c)
+
+-- a spare stands where its component does, and has that component's function
+pub record IsSpareOf (t : TextParts) (s : Spare) (f : MasterTables) : Type 0 where
+  pub comp : Component
+  pub found : get (listed_netlist t).comps s.name ≡ Some comp
+  pub place : comp.place ≡ Some s.point
+  pub function : comp.kind ≡ kind_of (Gate f)

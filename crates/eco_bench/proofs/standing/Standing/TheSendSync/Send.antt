@@ -1,0 +1,6 @@
+-- It has no bytes, and owns nothing.
+use denote.Param.Send.{IsSend, owning_send}
+use Rattle.eco_bench.specs.contracts.standing.Standing.{the_row, the_type}
+
+pub send : IsSend the_row
+send = owning_send the_type tt (λ d. tt) (λ k x w. tt)

@@ -1,0 +1,5 @@
+pub mod NameBytes
+pub mod KnownNames
+pub mod Causes
+pub mod Options
+pub mod Joints

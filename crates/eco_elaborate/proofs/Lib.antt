@@ -1,0 +1,31 @@
+pub mod Names
+pub mod Members
+pub mod Lookups
+pub mod Joining
+pub mod Statements
+pub mod Pins
+pub mod Nets
+pub mod Issuing
+pub mod Found
+pub mod Rewiring
+pub mod Telling
+pub mod Keeping
+pub mod Joinable
+pub mod Fillers
+pub mod Adding
+pub mod AddingTops
+pub mod Valued
+pub mod ReadOnce
+pub mod Limited
+pub mod Stating
+pub mod FindingPins
+pub mod Waiting
+pub mod JoiningPins
+pub mod Assembling
+pub mod Whole
+pub mod Unchanged
+pub mod TwoValued
+pub mod Unpowered
+mod Examples
+pub mod ReadingBack
+mod OwnText

@@ -1,8 +1,0 @@
-use Rattle.std.proofs.Common.{take}
-use Rattle.eco_full.specs.Stated.{named_comps}
-use Rattle.eco_full.specs.Stages.{has_supply_pin, stated_joints, FindsPins}
-use Rattle.eco_full.proofs.found_pins.add_joints.Given as goal
-
--- the pins of the joints so far are found
-abbrev pub invariant-loop-at : goal.invariant-loop-at
-invariant-loop-at g l = FindsPins (has_supply_pin (g.M.Macros.powers l.macros) (named_comps l.text l.comps)) l.maker (stated_joints l.text l.maker.nets (take l.at l.joints)) l.initial.pins.items l.pins.items

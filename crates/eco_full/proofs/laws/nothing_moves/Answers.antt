@@ -1,5 +1,0 @@
-use Rattle.eco_full.proofs.Unchanged as unchanged
-use Rattle.eco_full.proofs.laws.nothing_moves.Goals as goal
-
-pub returns : goal.returns
-returns c = unchanged.nothing_moves

@@ -1,5 +1,0 @@
-use Rattle.eco_full.proofs.TwoValued as two_valued
-use Rattle.eco_full.proofs.laws.two_valued_is.Goals as goal
-
-pub returns : goal.returns
-returns c = two_valued.two_valued_is

@@ -1,8 +1,0 @@
-use Rattle.std.proofs.Common.{take}
-use Rattle.eco_full.specs.Stated.{named_comps}
-use Rattle.eco_full.specs.Stages.{AddsComps}
-use Rattle.eco_full.proofs.listed_comps.add_comps.Given as goal
-
--- the components so far are added
-abbrev pub invariant-loop-comp : goal.invariant-loop-comp
-invariant-loop-comp g l = AddsComps (g.M.Macros.kinds l.macros) (named_comps l.text (take l.comp-index l.comps)) l.initial.maker l.maker

@@ -1,8 +1,0 @@
-use Rattle.std.proofs.Common.{◌∙◌}
-use Rattle.eco_full.specs.Stated.{named_nets}
-use Rattle.eco_full.specs.Stages.{value_of}
-use Rattle.eco_full.proofs.Valued.{differing}
-use Rattle.eco_full.proofs.supplies.first_two_valued.Goals as goal
-
-pub returns : goal.returns
-returns c = c.first_differing.ensures ∙ differing c.args.text.now (value_of c.in_ok-supplies.supplies) c.args.nets.now (named_nets c.args.text.now c.args.nets.now) c.in_ok-supplies.ensures

@@ -1,5 +1,0 @@
-use Rattle.eco_issued.proofs.Issuing.{reads_back as back}
-use Rattle.eco_issued.proofs.laws.reads_back.Goals as goal
-
-pub returns : goal.returns
-returns c = back

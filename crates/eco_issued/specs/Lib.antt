@@ -1,4 +1,0 @@
-pub mod Printing
-pub mod Changes
-pub mod Issued
-pub mod ReadingBack

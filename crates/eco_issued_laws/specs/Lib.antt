@@ -1,0 +1,6 @@
+pub mod Printing
+pub mod Changes
+pub mod Issued
+pub mod ReadingBack
+pub mod Withdrawals
+pub mod NewNets

@@ -1,7 +1,0 @@
-use Rattle.std.proofs.Common.{take}
-use Rattle.eco_masters.specs.Making.{AreKinds}
-use Rattle.eco_masters.proofs.table.kinds_of_masters.Given as goal
-
--- the kinds of the masters so far
-abbrev pub invariant-loop-master : goal.invariant-loop-master
-invariant-loop-master l = AreKinds l.functions (take l.master-index l.masters) l.kinds.items

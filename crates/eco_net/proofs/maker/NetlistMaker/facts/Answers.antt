@@ -1,0 +1,5 @@
+use Rattle.eco_net.proofs.Whole.{whole}
+use Rattle.eco_net.proofs.maker.NetlistMaker.facts.Goals as goal
+
+pub returns-clause-whole : goal.returns-clause-whole
+returns-clause-whole c = whole c.args.self.now c.net_count.ensures.listing

@@ -1,0 +1,11 @@
+pub mod DistinctPins
+pub mod MacroPins
+pub mod Applying
+pub mod SpareTables
+pub mod CompPins
+pub mod Spares
+pub mod MovedPins
+pub mod FedPins
+pub mod PatchPins
+pub mod MovedNetlists
+pub mod ReadyGates

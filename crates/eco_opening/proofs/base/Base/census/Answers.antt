@@ -1,7 +1,0 @@
-use Rattle.std.proofs.Common.{subst}
-use Rattle.eco_opening.specs.Bases.{BaseParts}
-use Rattle.eco_opening.specs.Census.{IsCensusOf}
-use Rattle.eco_opening.proofs.base.Base.census.Goals as goal
-
-pub returns-clause-census : goal.returns-clause-census
-returns-clause-census c = subst (λ (b : BaseParts). IsCensusOf b.texts c.self.inside.census) c.self.view_is c.self.invariant.counted

@@ -1,8 +1,0 @@
-use Rattle.std.proofs.Common.{subst}
-use Rattle.eco_net.specs.Depth.{IsDepth}
-use Rattle.eco_patch.specs.Bases.{bare}
-use Rattle.eco_opening.specs.Bases.{BaseParts, frozen}
-use Rattle.eco_opening.proofs.base.Base.depth.Goals as goal
-
-pub returns-clause-depth : goal.returns-clause-depth
-returns-clause-depth c = subst (λ (b : BaseParts). IsDepth (bare (frozen b.texts)) c.self.inside.depth) c.self.view_is c.self.invariant.deep

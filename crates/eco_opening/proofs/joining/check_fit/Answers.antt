@@ -1,5 +1,0 @@
-use Rattle.eco_opening.proofs.Fitting.{fit_told}
-use Rattle.eco_opening.proofs.joining.check_fit.Goals as goal
-
-pub returns-in-Ok-clause-fit : goal.returns-in-Ok-clause-fit
-returns-in-Ok-clause-fit c = fit_told c.args.texts.now c.text.result.now c.design.result.now c.library.result.now c.functions.result.now c.text.ensures.value c.design.ensures c.library.ensures.value c.functions.ensures c.in-Ok.ensures

@@ -1,7 +1,0 @@
--- What holds of an open base.
-use Rattle.eco_patch.specs.Bases.{IsBase}
-use Rattle.eco_opening.specs.Bases.{BaseParts, frozen, IsOpen}
-
--- It is a base that the laws of patches speak of.
-abbrev pub OpenIsBase : Type 0
-OpenIsBase = (b : BaseParts) → IsOpen b → IsBase (frozen b.texts)

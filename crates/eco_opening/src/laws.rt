@@ -1,9 +1,0 @@
-//! A law of open bases.
-
-ghost use Rattle.eco_opening.specs.Laws.{OpenIsBase};
-
-/// A law: an open base is one that the laws of patches speak of: it is whole and loop-free without its stock, its tie nets
-/// have their values by what is no stock, its stock are gates that drive nothing, and no component's name has a blank.
-pub fn open_is_base()
-    ensures { OpenIsBase }
-{}

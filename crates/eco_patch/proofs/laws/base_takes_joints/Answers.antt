@@ -1,5 +1,0 @@
-use Rattle.eco_patch.proofs.Taking.{base_takes_joints as takes}
-use Rattle.eco_patch.proofs.laws.base_takes_joints.Goals as goal
-
-pub returns : goal.returns
-returns c = takes

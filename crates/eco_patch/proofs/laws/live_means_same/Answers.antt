@@ -1,5 +1,0 @@
-use Rattle.eco_patch.proofs.Fold.{live_means_same as means_same}
-use Rattle.eco_patch.proofs.laws.live_means_same.Goals as goal
-
-pub returns : goal.returns
-returns c = means_same

@@ -1,5 +1,0 @@
-use Rattle.eco_patch.proofs.Alone.{is_patch}
-use Rattle.eco_patch.proofs.laws.lone_is_patch.Goals as goal
-
-pub returns : goal.returns
-returns c = is_patch

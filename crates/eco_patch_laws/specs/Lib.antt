@@ -1,0 +1,11 @@
+pub mod Orders
+pub mod Insertion
+pub mod Realisation
+pub mod Embeddings
+pub mod Rules
+pub mod Mappings
+pub mod Patches
+pub mod Meaning
+pub mod Live
+pub mod Lone
+pub mod Laws

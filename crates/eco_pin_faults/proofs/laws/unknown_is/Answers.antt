@@ -1,0 +1,5 @@
+use Rattle.eco_pin_faults.proofs.Known as law
+use Rattle.eco_pin_faults.proofs.laws.unknown_is.Goals as goal
+
+pub returns : goal.returns
+returns c = law.unknown_is

@@ -1,5 +1,0 @@
-use Rattle.toml.proofs.Views.{table_get}
-use Rattle.eco_spares.proofs.document.field_at.Goals as goal
-
-pub returns : goal.returns
-returns c = table_get c.get.result c.args.field.now c.args.document.now.entries c.get.ensures.value
