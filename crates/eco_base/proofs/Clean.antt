@@ -1,5 +1,5 @@
--- A netlist that is listed has no joint and no supply at fault, and a design that can't be listed has.
-use Rattle.std.proofs.Common.{◌≡◌, ◌≢◌, ℕ, true, false, List, [], ◌∷◌, Option, Some, None, inl, inr, ⊎_elim, refl, sym, ◌∙◌, subst, true≢false}
+-- A design whose netlist is listed has no faulty joint and no faulty supply, and one that can't be listed has.
+use Rattle.std.proofs.Common.{◌≡◌, ◌≢◌, ℕ, true, false, List, [], ◌∷◌, Option, None, inl, inr, ⊎_elim, refl, sym, ◌∙◌, subst, true≢false}
 use Rattle.std.specs.List.{Contains, list_all}
 use Rattle.eco_def.specs.declared.design.Design.{Design}
 use Rattle.eco_def.specs.Named.{NamedComp}
@@ -37,7 +37,7 @@ module _ (kinds : Kinds) (powers : Powers) (text : List ℕ) (d : Design) (read 
 
   module _ (pins : first_unknown kinds powers text d ≡ None) (nets : first_differing kinds text d ≡ None) where
     -- a clean design of known models is listed
-    pub not_refused : ((c : NamedComp) → Contains (named text d).comps c → kinds c.model ≢ None) → first_two_valued (named_nets text d.nets) ≡ None
+    pub not_refused : ((c : NamedComp) → Contains (named text d).comps c → kinds.kind c.model ≢ None) → first_two_valued (named_nets text d.nets) ≡ None
         → (e : DesignFault) → e ≢ NoRoom → IsFault kinds powers (named text d) e → ⊥
     not_refused models supplies UnknownMacro other (c, has, none) = models c has none
     not_refused models supplies UnknownPin other fault = (reasons_found kinds powers text d read).0 pins fault

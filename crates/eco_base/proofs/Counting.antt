@@ -9,7 +9,7 @@ use Rattle.eco_net.specs.declared.rows.CompRow.{CompRow}
 use Rattle.eco_net.specs.declared.rows.TopRow.{TopRow}
 use Rattle.eco_net.specs.declared.rows.NetRow.{NetRow}
 use Rattle.eco_net.specs.Netlist.{Name, name_cmp, Netlist}
-use Rattle.eco_net.specs.Listing.{Listing, netlist, top, AreApart, comp_names as listed_names}
+use Rattle.eco_net.specs.Listing.{Listing, netlist, top, AreDistinctNames, comp_names as listed_names}
 use Rattle.eco_net.specs.Kept.{IsListing}
 use Rattle.eco_net.specs.JoinedPins.{joined_pins}
 use Rattle.eco_net.proofs.Basics.{Has, cmp_apart}
@@ -23,7 +23,8 @@ use Rattle.eco_base.specs.Texts.{TextParts}
 use Rattle.eco_base.specs.Joined.{comp_names}
 use Rattle.eco_base.specs.Stocks.{listed_netlist}
 use Rattle.eco_base.specs.Census.{is_gate_at, is_named_gate, is_gate_row, IsCensusOf, IsCensusOfRows}
-use Rattle.eco_base.proofs.StockRows.{count_mapped, map_twice, found, skipped_is}
+use Rattle.eco_base.proofs.Lists.{map_twice}
+use Rattle.eco_base.proofs.StockRows.{count_mapped, found, skipped_is}
 use Rattle.eco_base.proofs.StockTaken.{count_is}
 
 -- ---- those that are and those that aren't
@@ -58,7 +59,7 @@ none_named k (e ∷ es) new =
     ap (λ b. cond b (Some e.1) (find name_cmp k es)) (cmp_apart k e.0 (λ s. new 0 (ap Some (sym s))))
     ∙ none_named k es (λ i. new (suc i))
 
-len_apart : {X : Type 0} (es : List (Name × X)) → AreApart (map (λ e. e.0) es) → len (from_entries {R = name_cmp} es) ≡ length es
+len_apart : {X : Type 0} (es : List (Name × X)) → AreDistinctNames (map (λ e. e.0) es) → len (from_entries {R = name_cmp} es) ≡ length es
 len_apart {X = X} [] a = len-empty name_cmp X
 len_apart (e ∷ es) a =
     let rest = from_entries {R = name_cmp} es in
@@ -67,9 +68,9 @@ len_apart (e ∷ es) a =
     ∙ ap (λ o. cond (is_some o) (len rest) (len rest + 1)) new
     ∙ omega (arith, len_apart es (apart_rest e.0 (map (λ e. e.0) es) a))
 
-len_named : {A X : Type 0} (name : A → Name) (f : A → X) (xs : List A) → AreApart (map name xs) → len (from_entries {R = name_cmp} (map {B = Name × X} (λ x. (name x, f x)) xs)) ≡ length xs
+len_named : {A X : Type 0} (name : A → Name) (f : A → X) (xs : List A) → AreDistinctNames (map name xs) → len (from_entries {R = name_cmp} (map {B = Name × X} (λ x. (name x, f x)) xs)) ≡ length xs
 len_named {X = X} name f xs a =
-    len_apart (map {B = Name × X} (λ x. (name x, f x)) xs) (subst AreApart (sym (map_twice {B = Name × X} (λ e. e.0) (λ x. (name x, f x)) xs)) a)
+    len_apart (map {B = Name × X} (λ x. (name x, f x)) xs) (subst AreDistinctNames (sym (map_twice {B = Name × X} (λ e. e.0) (λ x. (name x, f x)) xs)) a)
     ∙ length-map xs (λ x. (name x, f x))
 
 pub nets_counted : (L : Listing) → IsListing L → len (netlist L).nets ≡ length L.nets

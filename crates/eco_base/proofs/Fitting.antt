@@ -1,4 +1,4 @@
--- What fits where masters fit, and which fault of all is a fault of one kind.
+-- What follows where masters fit, and when a fault of one kind is the first of all.
 use Rattle.std.proofs.Common.{◌≡◌, ◌≢◌, ℕ, Bool, true, false, List, map, Option, Some, None, is_none, Result, Ok, Err, OnOk, IfErr, ⊎_elim, refl, sym, ap, ◌∙◌, subst, true≢false}
 use Rattle.std.specs.List.{Contains, find, list_all}
 use Rattle.std.specs.Option.{option_map}
@@ -13,7 +13,7 @@ use Rattle.eco_net.proofs.Basics.{Has, has_from_contains, has_of_map, has_map, n
 use Rattle.eco_elaborate.proofs.Members.{passes_found}
 use Rattle.eco_elaborate.specs.Stated.{named_comp, named_comps}
 use Rattle.eco_master_faults.specs.Tables.{Masters, kinds_of, kind_in, powers_of}
-use Rattle.eco_master_faults.specs.Checks.{Checks, is_unknown, first_unknown}
+use Rattle.eco_master_faults.specs.Checks.{Checks, is_unknown}
 use Rattle.eco_net.specs.Listing.{Listing, netlist, comp_names as listed_names}
 use Rattle.eco_elaborate.specs.declared.fault.DesignFault.{DesignFault}
 use Rattle.eco_elaborate.specs.declared.fault.DesignFault.TheVariants.{Memory as NoRoom}
@@ -24,10 +24,11 @@ use Rattle.eco_pin_faults.specs.declared.faults.Pattern.{Pattern}
 use Rattle.eco_pin_faults.specs.Places.{joints, places}
 use Rattle.eco_pin_faults.specs.Faults.{first_unknown as first_unknown_pin, first_net, first_differing, first_pattern, unknown_at, two_nets_at, pattern_at, named, is_right}
 use Rattle.eco_base.specs.declared.fault.BaseFault.{BaseFault}
-use Rattle.eco_base.specs.declared.fault.BaseFault.TheVariants.{Lef, Def, Func, Desk, UnknownMaster, FunctionPins, UnknownPin, PinNetDiffers, PatternOnSignal, SupplyDiffers, TieNotConstant, TooMuchStock, Loop, Memory}
+use Rattle.eco_base.specs.declared.fault.BaseFault.TheVariants.{UnknownMaster, FunctionPins, UnknownPin, PinNetDiffers, PatternOnSignal, SupplyDiffers, Memory}
 use Rattle.eco_base.specs.Texts.{TextParts, AreRead}
 use Rattle.eco_base.proofs.Clean.{clean_of, not_refused, tops_not_wrong}
-use Rattle.eco_base.specs.Joined.{design_names, masters_of, kinds, powers, AreClean, ListsClean, MastersFit, unknown_pin, two_nets, pattern, two_valued, BlamesMasters, BlamesPin, BlamesNets, BlamesPattern, BlamesSupply, BlamesJoints}
+use Rattle.eco_base.specs.Joined.{design_names, masters_of, kinds, powers, AreClean, ListsClean, MastersFit, unknown_pin, two_nets, pattern, BlamesMasters, BlamesPin, BlamesNets, BlamesPattern, BlamesSupply}
+use Rattle.eco_base.specs.Opened.{IsFirstOf}
 
 -- ---- options
 
@@ -48,7 +49,7 @@ passes_none test xs e x h = ⊎_elim (λ t. let f = passes_found test xs x h t i
 
 module _ (t : TextParts) where
   -- each component's model is known
-  pub models_known : MastersFit t → (c : NamedComp) → Contains (design_names t).comps c → kinds t c.model ≢ None
+  pub models_known : MastersFit t → (c : NamedComp) → Contains (design_names t).comps c → (kinds t).kind c.model ≢ None
   models_known fit c has none =
       let a = has_of_map comp_names (map (comp_in t.text) t.design.comps) c (has_from_contains (design_names t).comps c has) in
       let b = has_of_map (comp_in t.text) t.design.comps a.0 a.1 in
@@ -56,52 +57,52 @@ module _ (t : TextParts) where
       let here : Has (named_comps t.text t.design.comps) c = subst (λ k. Has (named_comps t.text t.design.comps) k) same (has_map (named_comp t.text) t.design.comps b.0 b.1) in
       not_none (find_master c.model t.library) (passes_none (is_unknown t.library) (named_comps t.text t.design.comps) fit.0 c here) (none_mapped (kind_in t.functions) (find_master c.model t.library) none)
 
-  -- ---- the faults of one kind among all
+  -- ---- when a fault of one kind is the first
 
-  pub masters_first : (e : BaseFault) → BlamesMasters t e → BlamesJoints t e
-  masters_first (UnknownMaster comp) h = h
-  masters_first (FunctionPins master pin) h = h
-  masters_first Memory h = tt
+  pub masters_first : (e : BaseFault) → BlamesMasters t e → IsFirstOf t e
+  masters_first (UnknownMaster comp) h = λ lef def functions desk read. (t, read, h)
+  masters_first (FunctionPins master pin) h = λ lef def functions desk read. (t, read, h)
+  masters_first Memory h = λ lef def functions desk read. tt
   masters_first other h = absurd h
 
-  pub pins_first : MastersFit t → (e : BaseFault) → BlamesPin t e → BlamesJoints t e
-  pins_first fit (UnknownPin net place) h = (fit, h)
-  pins_first fit Memory h = tt
+  pub pins_first : MastersFit t → (e : BaseFault) → BlamesPin t e → IsFirstOf t e
+  pins_first fit (UnknownPin net place) h = λ lef def functions desk read. (t, read, (fit, h))
+  pins_first fit Memory h = λ lef def functions desk read. tt
   pins_first fit other h = absurd h
 
-  pub nets_first : MastersFit t → unknown_pin t ≡ None → (e : BaseFault) → BlamesNets t e → BlamesJoints t e
-  nets_first fit pins (PinNetDiffers pin first second) h = (fit, pins, h)
-  nets_first fit pins Memory h = tt
+  pub nets_first : MastersFit t → unknown_pin t ≡ None → (e : BaseFault) → BlamesNets t e → IsFirstOf t e
+  nets_first fit pins (PinNetDiffers pin first second) h = λ lef def functions desk read. (t, read, (fit, pins, h))
+  nets_first fit pins Memory h = λ lef def functions desk read. tt
   nets_first fit pins other h = absurd h
 
-  pub patterns_first : MastersFit t → unknown_pin t ≡ None → two_nets t ≡ None → (e : BaseFault) → BlamesPattern t e → BlamesJoints t e
-  patterns_first fit pins nets (PatternOnSignal net pin) h = (fit, pins, nets, h)
-  patterns_first fit pins nets Memory h = tt
+  pub patterns_first : MastersFit t → unknown_pin t ≡ None → two_nets t ≡ None → (e : BaseFault) → BlamesPattern t e → IsFirstOf t e
+  patterns_first fit pins nets (PatternOnSignal net pin) h = λ lef def functions desk read. (t, read, (fit, pins, nets, h))
+  patterns_first fit pins nets Memory h = λ lef def functions desk read. tt
   patterns_first fit pins nets other h = absurd h
 
-  pub supplies_first : MastersFit t → unknown_pin t ≡ None → two_nets t ≡ None → pattern t ≡ None → (e : BaseFault) → BlamesSupply t e → BlamesJoints t e
-  supplies_first fit pins nets patterns (SupplyDiffers net) h = (fit, pins, nets, patterns, h)
-  supplies_first fit pins nets patterns Memory h = tt
+  pub supplies_first : MastersFit t → unknown_pin t ≡ None → two_nets t ≡ None → pattern t ≡ None → (e : BaseFault) → BlamesSupply t e → IsFirstOf t e
+  supplies_first fit pins nets patterns (SupplyDiffers net) h = λ lef def functions desk read. (t, read, (fit, pins, nets, patterns, h))
+  supplies_first fit pins nets patterns Memory h = λ lef def functions desk read. tt
   supplies_first fit pins nets patterns other h = absurd h
 
 -- ---- what is found by a table of the texts' masters
 
 module _ (t : TextParts) (m : Masters) (text : List ℕ) (design : Design) (e : m ≡ masters_of t) (f : text ≡ t.text) (g : design ≡ t.design) where
-  pub pin_told : (o : Option NoPin) → o ≡ option_map unknown_at (first_unknown_pin (kinds_of m.library m.functions) (powers_of m.library) text design) → unknown_pin t ≡ o
-  pin_told o h = sym (h ∙ (λ i. option_map unknown_at (first_unknown_pin (kinds_of (e i).library (e i).functions) (powers_of (e i).library) (f i) (g i))))
+  pub pin_found : (o : Option NoPin) → o ≡ option_map unknown_at (first_unknown_pin (kinds_of m.library m.functions) (powers_of m.library) text design) → unknown_pin t ≡ o
+  pin_found o h = sym (h ∙ (λ i. option_map unknown_at (first_unknown_pin (kinds_of (e i).library (e i).functions) (powers_of (e i).library) (f i) (g i))))
 
-  pub nets_told : (o : Option TwoNets) → o ≡ option_map (λ p. two_nets_at (first_net (places text design) p.comp p.pin) p) (first_differing (kinds_of m.library m.functions) text design) → two_nets t ≡ o
-  nets_told o h = sym (h ∙ (λ i. option_map (λ p. two_nets_at (first_net (places (f i) (g i)) p.comp p.pin) p) (first_differing (kinds_of (e i).library (e i).functions) (f i) (g i))))
+  pub nets_found : (o : Option TwoNets) → o ≡ option_map (λ p. two_nets_at (first_net (places text design) p.comp p.pin) p) (first_differing (kinds_of m.library m.functions) text design) → two_nets t ≡ o
+  nets_found o h = sym (h ∙ (λ i. option_map (λ p. two_nets_at (first_net (places (f i) (g i)) p.comp p.pin) p) (first_differing (kinds_of (e i).library (e i).functions) (f i) (g i))))
 
-  pub pattern_told : (o : Option Pattern) → o ≡ option_map pattern_at (first_pattern (kinds_of m.library m.functions) text design) → pattern t ≡ o
-  pattern_told o h = sym (h ∙ (λ i. option_map pattern_at (first_pattern (kinds_of (e i).library (e i).functions) (f i) (g i))))
+  pub pattern_found : (o : Option Pattern) → o ≡ option_map pattern_at (first_pattern (kinds_of m.library m.functions) text design) → pattern t ≡ o
+  pattern_found o h = sym (h ∙ (λ i. option_map pattern_at (first_pattern (kinds_of (e i).library (e i).functions) (f i) (g i))))
 
 -- ---- what is known of the texts by what the code looks at
 
 module _ (t : TextParts) where
-  pub fit_told : (text : List ℕ) (design : Design) (library : List Master) (functions : List MasterTables) → text ≡ t.text → design ≡ t.design → library ≡ t.library → functions ≡ t.functions
+  pub fit_known : (text : List ℕ) (design : Design) (library : List Master) (functions : List MasterTables) → text ≡ t.text → design ≡ t.design → library ≡ t.library → functions ≡ t.functions
       → Checks (named_comps text design.comps) library functions (Ok tt) → MastersFit t
-  fit_told text design library functions e f g h checks =
+  fit_known text design library functions e f g h checks =
       subst (λ z. Checks (named_comps t.text t.design.comps) t.library z (Ok tt)) h
       (subst (λ z. Checks (named_comps t.text t.design.comps) z functions (Ok tt)) g
       (subst (λ (z : Design). Checks (named_comps t.text z.comps) library functions (Ok tt)) f
@@ -117,17 +118,17 @@ module _ (t : TextParts) where
   clean_nets clean = none_mapped (λ p. two_nets_at (first_net (places t.text t.design) p.comp p.pin) p) (first_differing (kinds t) t.text t.design) clean.1
 
   module _ (m : Masters) (text : List ℕ) (design : Design) (e : m ≡ masters_of t) (f : text ≡ t.text) (g : design ≡ t.design) (read : AreRead t) where
-    pub refused_told : MastersFit t → (fault : DesignFault) → fault ≢ NoRoom → IsFault (kinds_of m.library m.functions) (powers_of m.library) (names_of (design_in text design)) fault → AreClean t → ⊥
-    refused_told fit fault other is clean =
+    pub refused_known : MastersFit t → (fault : DesignFault) → fault ≢ NoRoom → IsFault (kinds_of m.library m.functions) (powers_of m.library) (names_of (design_in text design)) fault → AreClean t → ⊥
+    refused_known fit fault other is clean =
         let here : IsFault (kinds t) (powers t) (design_names t) fault =
         subst (λ (z : Masters). IsFault (kinds_of z.library z.functions) (powers_of z.library) (design_names t) fault) e
         (subst (λ z. IsFault (kinds_of m.library m.functions) (powers_of m.library) (names_of (design_in t.text z)) fault) g
         (subst (λ z. IsFault (kinds_of m.library m.functions) (powers_of m.library) (names_of (design_in z design)) fault) f is)) in
         not_refused (kinds t) (powers t) t.text t.design read.reading (clean_pins clean) (clean_nets clean) (models_known t fit) clean.2 fault other here
 
-    pub clean_told : (L : Listing) → IsListed (kinds_of m.library m.functions) (powers_of m.library) (names_of (design_in text design)) (netlist L) → listed_names L ≡ map (λ c. c.name) (named_comps text design.comps)
+    pub clean_known : (L : Listing) → IsListed (kinds_of m.library m.functions) (powers_of m.library) (names_of (design_in text design)) (netlist L) → listed_names L ≡ map (λ c. c.name) (named_comps text design.comps)
         → list_all (is_right (named t.text t.design)) (joints t.text t.design) ≡ true → ListsClean t L
-    clean_told L is numbers right =
+    clean_known L is numbers right =
         let here : IsListed (kinds t) (powers t) (design_names t) (netlist L) =
         subst (λ (z : Masters). IsListed (kinds_of z.library z.functions) (powers_of z.library) (design_names t) (netlist L)) e
         (subst (λ z. IsListed (kinds_of m.library m.functions) (powers_of m.library) (names_of (design_in t.text z)) (netlist L)) g
@@ -146,13 +147,13 @@ module _ (t : TextParts) where
   pub not_clean : AreRead t → list_all (is_right (named t.text t.design)) (joints t.text t.design) ≡ false → AreClean t → ⊥
   not_clean read wrong clean = tops_not_wrong (kinds t) (powers t) t.text t.design read.reading (clean_pins clean) (clean_nets clean) wrong
 
-  pub memory_first : (e : BaseFault) → e ≡ Memory → BlamesJoints t e
-  memory_first e is = subst (BlamesJoints t) (sym is) tt
+  pub memory_first : (e : BaseFault) → e ≡ Memory → IsFirstOf t e
+  memory_first e is = subst (IsFirstOf t) (sym is) (λ lef def functions desk read. tt)
 
   -- whether top pins agree, by the text and the design that the code looks at
-  pub right_told : (text : List ℕ) (design : Design) → text ≡ t.text → design ≡ t.design → (b answer : Bool) → b ≡ list_all (is_right (named text design)) (joints text design) → b ≡ answer
+  pub right_known : (text : List ℕ) (design : Design) → text ≡ t.text → design ≡ t.design → (b answer : Bool) → b ≡ list_all (is_right (named text design)) (joints text design) → b ≡ answer
       → list_all (is_right (named t.text t.design)) (joints t.text t.design) ≡ answer
-  right_told text design e f b answer is said = (λ i. list_all (is_right (named (sym e i) (sym f i))) (joints (sym e i) (sym f i))) ∙ sym is ∙ said
+  right_known text design e f b answer is said = (λ i. list_all (is_right (named (sym e i) (sym f i))) (joints (sym e i) (sym f i))) ∙ sym is ∙ said
 
 -- ---- what holds of an answer
 

@@ -10,10 +10,15 @@ pub mod LibraryWords
 pub mod ReadingFaults
 pub mod Clean
 pub mod Fitting
+pub mod SpareEntries
 pub mod StockRows
+pub mod Ordered
+pub mod SparePoints
+pub mod Ranges
 pub mod StockFaults
 pub mod OpenBases
 pub mod StockTaken
 pub mod Counting
 pub mod Limits
+pub mod Hashing
 pub mod FirstFaults

@@ -1,5 +1,5 @@
 -- The netlist of an open base keeps the limits of its design.
-use Rattle.std.proofs.Common.{◌≡◌, ◌≢◌, ℕ, suc, ◌≤◌, Bool, true, false, cond, not, ◌||◌, ◌&&◌, List, [], ◌∷◌, ◌++◌, map, length, Option, Some, None, is_some, count_by, refl, sym, ap, ◌∙◌, subst, arith, slice_get, inl, inr, ⊎_elim, ◌⊎◌, length-append, true≢false}
+use Rattle.std.proofs.Common.{◌≡◌, ◌≢◌, ℕ, suc, ◌≤◌, Bool, true, false, cond, not, ◌||◌, ◌&&◌, List, [], ◌∷◌, ◌++◌, map, length, Option, Some, None, is_some, count_by, refl, sym, ap, ◌∙◌, subst, arith, slice_get, inl, inr, ⊎_elim, length-append, true≢false}
 use Rattle.std.specs.List.{list_any, flat_map, sum_by}
 use Rattle.std.specs.Str.{bytes_eq}
 use Rattle.std.specs.FinMap.{get}
@@ -12,11 +12,11 @@ use Rattle.eco_def.specs.Design as said
 use Rattle.eco_def.specs.Grammar.{joint_count}
 use Rattle.eco_def.specs.Named.{NamedJoint, NamedNet, NamedDesign, comp_names, pin_names, joint_names, net_names}
 use Rattle.eco_def.specs.View.{design_in}
-use Rattle.eco_issued_laws.specs.Changes.{has_statement, is_no_component}
+use Rattle.eco_issued_laws.specs.Changes.{has_statement, is_no_component, has_net, statements}
 use Rattle.eco_net.specs.declared.rows.NetRow.{NetRow}
 use Rattle.eco_net.specs.declared.rows.CompRow.{CompRow}
 use Rattle.eco_net.specs.Netlist.{Name, Netlist, Component, Role, IsNet}
-use Rattle.eco_net.specs.Listing.{Listing, netlist, component, pins, net_name, AreApart}
+use Rattle.eco_net.specs.Listing.{Listing, netlist, component, pins, net_name, AreDistinctNames}
 use Rattle.eco_net.specs.Kept.{IsListing}
 use Rattle.eco_net.specs.JoinedPins.{joined_pins}
 use Rattle.eco_net.proofs.Basics.{Has, not_None, has_map, has_append_left, has_append_right}
@@ -24,7 +24,7 @@ use Rattle.eco_net.proofs.Places.{row_of_name, name_of_row}
 use Rattle.eco_net.proofs.GateNames.{at_has}
 use Rattle.eco_net.proofs.Named.{apart_first, apart_rest, net_is, comp_is, joined_is}
 use Rattle.eco_net.proofs.JoinedNames.{joined_count, joined_rows}
-use Rattle.eco_elaborate.specs.Netlists.{statements, has_net, supply_in, names_pin}
+use Rattle.eco_elaborate.specs.Netlists.{net_supply, names_pin}
 use Rattle.eco_elaborate.proofs.Names.{same_name}
 use Rattle.eco_elaborate.proofs.Members.{any_has, has_of_append}
 use Rattle.eco_elaborate.proofs.Stating.{in_flat_map}
@@ -33,6 +33,7 @@ use Rattle.eco_elaborate.proofs.Found.{comp_said, on_statement}
 use Rattle.eco_elaborate.proofs.Telling.{pin_said}
 use Rattle.eco_net.specs.Bases.{bare}
 use Rattle.eco_patch_laws.proofs.Start.{in_full}
+use Rattle.eco_base.proofs.Ranges.{centred}
 use Rattle.eco_base.specs.Texts.{TextParts, AreRead}
 use Rattle.eco_base.specs.Joined.{design_names, kinds}
 use Rattle.eco_base.specs.Stocks.{full_netlist}
@@ -40,7 +41,7 @@ use Rattle.eco_base.specs.Bases.{BaseParts, frozen, IsOpen}
 use Rattle.eco_base.specs.Limits.{KeepsLimits}
 use Rattle.eco_base.proofs.OpenBases.{no_blank}
 
--- ---- what stands once among others isn't more than those
+-- ---- a list without repeats, all of it in another, is no longer than that
 
 module _ {A : Type 0} where
   -- none stands twice
@@ -78,7 +79,7 @@ module _ {A : Type 0} where
   once_append [] ys a b c = b
   once_append (x ∷ xs) ys a b c = (λ h. ⊎_elim a.0 (λ i. c x (inl refl) i) (has_of_append xs ys x h), once_append xs ys a.1 b (λ z i j. c z (inr i) j))
 
-once_apart : (ns : List Name) → AreApart ns → Once ns
+once_apart : (ns : List Name) → AreDistinctNames ns → Once ns
 once_apart [] a = tt
 once_apart (n ∷ ns) a = (λ h. let i = at_has ns n h in apart_first n ns a i.0 n i.1 refl, once_apart ns (apart_rest n ns a))
 
@@ -107,7 +108,7 @@ row_length c (p ∷ ps) [] l = absurd (omega (arith, l))
 row_length c (p ∷ ps) (None ∷ js) l = omega (arith, row_length c ps js (omega (arith, l)), sum_by-cons (λ (j : Option ℕ). cond (is_some j) 1 0) None js)
 row_length c (p ∷ ps) (Some i ∷ js) l = omega (arith, row_length c ps js (omega (arith, l)), sum_by-cons (λ (j : Option ℕ). cond (is_some j) 1 0) (Some i) js)
 
-row_once : (c : Name) (ps : List (Name × Role)) (js : List (Option ℕ)) → AreApart (map (λ p. p.0) ps) → Once (row_pins c ps js)
+row_once : (c : Name) (ps : List (Name × Role)) (js : List (Option ℕ)) → AreDistinctNames (map (λ p. p.0) ps) → Once (row_pins c ps js)
 row_once c [] js a = tt
 row_once c (p ∷ ps) [] a = tt
 row_once c (p ∷ ps) (None ∷ js) a = row_once c ps js (apart_rest p.0 (map (λ p. p.0) ps) a)
@@ -139,7 +140,7 @@ all_length (r ∷ rows) each = omega (
   sum_by-cons joined_count r rows,
 )
 
-all_once : (rows : List CompRow) → AreApart (map (λ r. r.name) rows) → ((k : ℕ) (r : CompRow) → slice_get rows k ≡ Some r → AreApart (map (λ p. p.0) (pins r))) → Once (all_pins rows)
+all_once : (rows : List CompRow) → AreDistinctNames (map (λ r. r.name) rows) → ((k : ℕ) (r : CompRow) → slice_get rows k ≡ Some r → AreDistinctNames (map (λ p. p.0) (pins r))) → Once (all_pins rows)
 all_once [] a each = tt
 all_once (r ∷ rows) a each =
     once_append (row_pins r.name (pins r) r.joined) (all_pins rows)
@@ -198,7 +199,7 @@ module _ (t : TextParts) (read : AreRead t) (L : Listing) (is : IsListing L) (sa
           has_append_right (map (λ s. s.name) (statements d)) (map (λ p. p.net) d.pins) n (subst (Has (map (λ p. p.net) d.pins)) (same_name p.0.net n p.2) (has_map (λ p. p.net) d.pins p.0 p.1))
       by_part false false e f g = absurd (true≢false (sym g))
 
-      go : (b : Bool) → has_net d n ≡ b → cond b (Some (supply_in d n)) None ≡ Some i.0 → Has said_nets n
+      go : (b : Bool) → has_net d n ≡ b → cond b (Some (net_supply d n)) None ≡ Some i.0 → Has said_nets n
       go true e f = by_part (has_statement (statements d) n) (list_any (λ p. bytes_eq p.net n) d.pins) refl refl e
       go false e f = absurd (not_None (sym f))
 
@@ -230,7 +231,7 @@ module _ (t : TextParts) (read : AreRead t) (L : Listing) (is : IsListing L) (sa
   joint_stands : (c p n : Name) (x : Component) → get (full_netlist t).comps c ≡ Some x → get x.joined p ≡ Some n → Has (joint_pins (statements d)) (c, p)
   joint_stands c p n x e f =
       let y = comp_said (kinds t) ties d c x e in
-      let on = (pin_said d y.0.0 y.0.1 p n (ap (λ (z : Component). get z.joined p) y.4 ∙ f)).1 in
+      let on = (pin_said (kinds t) d y.0.0 y.0.1 p n (ap (λ (z : Component). get z.joined p) y.4 ∙ f)).1 in
       let s = on_statement d y.0.0.name p n on in
       let j = any_has (names_pin y.0.0.name p) s.0.joints s.3 in
       let both = and_parts (not (is_no_component j.0.comp)) (bytes_eq y.0.0.name j.0.comp && bytes_eq p j.0.pin) j.2 in
@@ -267,6 +268,7 @@ module _ (t : TextParts) (read : AreRead t) (L : Listing) (is : IsListing L) (sa
     comps = few_comps;
     pins = few_pins;
     names = λ c x e. no_blank t read c x (in_full (frozen t) c x (ap (λ (N : Netlist). get N.comps c) (sym same) ∙ e));
+    centres = λ c x e. centred t read (t.desk.low ∷ t.desk.high ∷ []) c x (in_full (frozen t) c x (ap (λ (N : Netlist). get N.comps c) (sym same) ∙ e));
   }
 
 pub limits_kept : (b : BaseParts) → IsOpen b → IsListing b.listing → KeepsLimits b.listing

@@ -1,5 +1,5 @@
 -- Lists by their places
-use Rattle.std.proofs.Common.{◌≡◌, ℕ, zero, suc, ◌+◌, Bool, true, false, cond, ◌&&◌, List, [], ◌∷◌, ◌++◌, map, take, get_or, Option, Some, None, refl, sym, ap, ◌∙◌, slice_get, add-zero, true≢false}
+use Rattle.std.proofs.Common.{◌≡◌, ℕ, zero, suc, ◌+◌, Bool, true, false, cond, ◌&&◌, List, [], ◌∷◌, ◌++◌, map, take, get_or, Option, Some, None, refl, sym, ap, ◌∙◌, slice_get, add-zero, inl, inr, if◌then◌else◌, true≢false}
 use Rattle.std.specs.Prelude.{count_by}
 use Rattle.std.specs.Option.{option_map, option_to_list, unwrap_or}
 use Rattle.std.specs.List.{filter, list_all}
@@ -11,12 +11,16 @@ use Rattle.std.proofs.lemmas.List.Sums.{count_by_more_yes, count_by_more_no}
 use Rattle.std.proofs.lemmas.List.Elements.{filter-append}
 use Rattle.eco_net.specs.Netlist.{Name}
 use Rattle.eco_net.specs.Listing.{Listing, net_names, net_name}
-use Rattle.eco_net.proofs.Basics.{same_Some, not_None}
+use Rattle.eco_net.proofs.Basics.{Has, same_Some, not_None}
 
 -- what stands at a place, by a function of it
 pub row_at : {A B : Type 0} (f : A → B) (o : Option A) (b : B) → option_map f o ≡ Some b → (x : A) × (o ≡ Some x) × (f x ≡ b)
 row_at f None b e = absurd (not_None (sym e))
 row_at f (Some x) b e = (x, refl, same_Some e)
+
+pub map_twice : {A B C : Type 0} (g : B → C) (f : A → B) (xs : List A) → map g (map f xs) ≡ map (λ x. g (f x)) xs
+map_twice g f [] = refl
+map_twice g f (x ∷ xs) = ap (λ ys. g (f x) ∷ ys) (map_twice g f xs)
 
 pub more : {A : Type 0} (xs : List A) (i : ℕ) (x : A) → slice_get xs i ≡ Some x → take (i + 1) xs ≡ take i xs ++ x ∷ []
 more xs i x e = take_more xs i x (slice_get_within xs i x e) ∙ ap (λ y. take i xs ++ y ∷ []) (get_or_from_slice_get xs i x x e)
@@ -67,3 +71,26 @@ all_more f xs i x e h a =
 
 pub net_named : (L : Listing) (n : ℕ) (name : Name) → slice_get (net_names L) n ≡ Some name → net_name L.nets n ≡ name
 net_named L n name e = ap (λ o. unwrap_or o []) (sym (slice_get-map (λ r. r.name) L.nets n) ∙ e)
+
+-- ---- mapped and filtered lists
+
+pub filter_mapped : {A B : Type 0} (f : A → B) (P : B → Bool) (Q : A → Bool) (xs : List A) → ((x : A) → Has xs x → P (f x) ≡ Q x) → map f (filter Q xs) ≡ filter P (map f xs)
+filter_mapped f P Q [] e = refl
+filter_mapped f P Q (x ∷ xs) e = at (filter_mapped f P Q xs (λ y h. e y (inr h))) (Q x) ∙ ap (λ b. if b then f x ∷ filter P (map f xs) else filter P (map f xs)) (sym (e x (inl refl)))
+  where
+    at : map f (filter Q xs) ≡ filter P (map f xs) → (b : Bool) → map f (if b then x ∷ filter Q xs else filter Q xs) ≡ (if b then f x ∷ filter P (map f xs) else filter P (map f xs))
+    at rest true = ap (λ ys. f x ∷ ys) rest
+    at rest false = rest
+
+pub same_tail : {A : Type 0} {x y : A} {xs ys : List A} → x ∷ xs ≡ y ∷ ys → xs ≡ ys
+same_tail {A = A} {xs = xs} e = ap rest e
+  where
+    rest : List A → List A
+    rest [] = xs
+    rest (z ∷ zs) = zs
+
+pub not_nil : {A : Type 0} {x : A} {xs : List A} → x ∷ xs ≡ [] → ⊥
+not_nil e = cc
+
+pub nil_not : {A : Type 0} {x : A} {xs : List A} → [] ≡ x ∷ xs → ⊥
+nil_not e = cc

@@ -1,5 +1,5 @@
 -- An open base is one that the laws of patches speak of.
-use Rattle.std.proofs.Common.{◌≡◌, ◌||◌, ℕ, Bool, true, false, List, [], ◌∷◌, map, Option, Some, None, refl, sym, ap, ◌∙◌, subst, inl, inr, ⊎_elim, ◌⊎◌, true≢false}
+use Rattle.std.proofs.Common.{◌≡◌, ◌||◌, ℕ, Bool, true, false, List, [], ◌∷◌, Option, Some, None, refl, sym, ap, ◌∙◌, subst, inl, inr, ⊎_elim, true≢false}
 use Rattle.std.specs.List.{AllByRecursion, Contains}
 use Rattle.std.specs.Ordering.{eq_by_cmp}
 use Rattle.std.specs.FinMap.{get}
@@ -12,21 +12,20 @@ use Rattle.eco_text.specs.Tokens.{can_name}
 use Rattle.eco_issued_laws.proofs.Allowed.{NoBlank}
 use Rattle.eco_issued_laws.proofs.Names.{name_when}
 use Rattle.eco_issued_laws.proofs.Issuing.{comps_can_name}
-use Rattle.eco_net.specs.Netlist.{Name, name_cmp, Netlist, Component, IsNet, IsWhole}
+use Rattle.eco_net.specs.Netlist.{Name, name_cmp, Netlist, Component, IsNet}
 use Rattle.eco_net.specs.Drivers.{driven_at}
 use Rattle.eco_net.proofs.Basics.{Has, contains_from_has, has_from_contains, has_of_map, same_Some, cmp_itself}
 use Rattle.eco_elaborate.proofs.Found.{comp_said}
 use Rattle.eco_elaborate.proofs.Members.{of_filter}
-use Rattle.eco_net.specs.Bases.{Base, bare, IsConstant, IsSpare, IsWithout, IsBase, HasBlank, is_stock}
+use Rattle.eco_net.specs.Bases.{bare, IsConstant, IsSpare, IsWithout, HasBlank, is_stock}
 use Rattle.eco_patch_laws.proofs.Feeding.{spare_idle}
 use Rattle.eco_patch_laws.proofs.Start.{bool_cases, any_has, bare_other, in_full}
 use Rattle.eco_patch_laws.proofs.Taking.{constant_net}
-use Rattle.eco_base.specs.StockLaws.{TieNetsStayConstant, StockIsSpare}
 use Rattle.eco_base.proofs.TieLaws.{ties_stay}
 use Rattle.eco_base.proofs.Rest.{stock_spare as stock_is_spare}
 use Rattle.eco_base.specs.Texts.{TextParts, AreRead}
 use Rattle.eco_base.specs.Joined.{design_names, comp_names, kinds}
-use Rattle.eco_base.specs.Bases.{BaseParts, listed_netlist, full_netlist, is_stock_at, is_in_stock, stock_names, frozen, IsOpen}
+use Rattle.eco_base.specs.Bases.{listed_netlist, full_netlist, is_stock_at, is_in_stock, stock_names, frozen}
 use Rattle.eco_base.specs.Laws.{OpenIsBase}
 
 -- ---- names without a blank

@@ -1,40 +1,33 @@
 -- The stock by the rows of a listing is that by the names of the design.
-use Rattle.std.proofs.Common.{◌≡◌, ℕ, zero, suc, ◌+◌, Bool, true, false, cond, not, ◌&&◌, List, [], ◌∷◌, map, Option, Some, None, count_by, slice_get, refl, sym, ap, ◌∙◌, subst, inl, inr, ⊎_elim, ◌⊎◌, true≢false, if◌then◌else◌}
-use Rattle.std.specs.List.{All, AllZip, Contains, filter, list_all}
-use Rattle.std.specs.Option.{option_map}
+use Rattle.std.proofs.Common.{◌≡◌, ◌+◌, Bool, true, false, cond, not, ◌&&◌, List, [], ◌∷◌, map, Option, Some, count_by, slice_get, refl, sym, ap, ◌∙◌, subst, inl, inr, true≢false}
+use Rattle.std.specs.Prelude.{IsSome, is_some}
+use Rattle.std.specs.List.{All, AllZip, filter, position}
+use Rattle.std.specs.Str.{bytes_eq}
 use Rattle.std.specs.FinMap.{get}
 use Rattle.std.proofs.lemmas.List.Sums.{sum_by-cons}
 use Rattle.std.proofs.lemmas.List.Elements.{All-nil, All-cons, All-head, All-tail}
 use Rattle.eco_common.specs.declared.geometry.Point.{Point}
 use Rattle.eco_func.specs.Masters.{MasterTables}
-use Rattle.eco_net.specs.Netlist.{Name, Netlist, Component}
-use Rattle.eco_net.specs.declared.kind.Kind.{Kind as Given}
+use Rattle.eco_net.specs.Netlist.{Name, Netlist}
 use Rattle.eco_net.specs.declared.kind.Kind.TheVariants.{Gate}
 use Rattle.eco_net.specs.declared.rows.CompRow.{CompRow}
-use Rattle.eco_net.specs.Listing.{Listing, netlist, component, kind_of, comp_names as listed_names}
+use Rattle.eco_net.specs.Listing.{Listing, netlist, component, given_kind, AreDistinctNames, comp_names as listed_names}
 use Rattle.eco_net.specs.Kept.{IsListing}
-use Rattle.eco_net.proofs.Basics.{Has, same_Some, same_head, not_None}
-use Rattle.eco_net.proofs.GateNames.{has_at, at_has}
+use Rattle.eco_net.proofs.Basics.{Has, same_Some, same_head}
+use Rattle.eco_net.proofs.GateNames.{at_has}
 use Rattle.eco_net.proofs.Named.{comp_is}
 use Rattle.eco_elaborate.proofs.Members.{of_filter}
 use Rattle.eco_desk_file.specs.Desk.{is_spare_named}
 use Rattle.eco_base.specs.declared.stock.Spare.{Spare}
-use Rattle.eco_base.specs.Stock.{is_gate, is_idle, is_stock}
+use Rattle.eco_base.specs.Stock.{is_gate, is_idle}
 use Rattle.eco_base.specs.Found.{is_stock_row, is_skipped_row, place_in_row, place_of_spare}
 use Rattle.eco_base.specs.Texts.{TextParts}
-use Rattle.eco_base.specs.Stocks.{listed_netlist, is_stock_at, is_in_stock, stock_names, is_skipped, IsSpareOf}
+use Rattle.eco_base.specs.Stocks.{listed_netlist, is_stock_at, is_in_stock, stock_names, is_skipped, entry_at, IsSpareOf}
 use Rattle.eco_base.specs.Joined.{comp_names}
-use Rattle.eco_base.specs.Stocked.{IsGateRow}
+use Rattle.eco_base.proofs.Lists.{filter_mapped, map_twice, same_tail, not_nil, nil_not}
+use Rattle.eco_base.proofs.SpareEntries.{place_of, entry_of_gate}
 
 -- ---- lists
-
-filter_mapped : {A B : Type 0} (f : A → B) (P : B → Bool) (Q : A → Bool) (xs : List A) → ((x : A) → Has xs x → P (f x) ≡ Q x) → map f (filter Q xs) ≡ filter P (map f xs)
-filter_mapped f P Q [] e = refl
-filter_mapped f P Q (x ∷ xs) e = at (filter_mapped f P Q xs (λ y h. e y (inr h))) (Q x) ∙ ap (λ b. if b then f x ∷ filter P (map f xs) else filter P (map f xs)) (sym (e x (inl refl)))
-  where
-    at : map f (filter Q xs) ≡ filter P (map f xs) → (b : Bool) → map f (if b then x ∷ filter Q xs else filter Q xs) ≡ (if b then f x ∷ filter P (map f xs) else filter P (map f xs))
-    at rest true = ap (λ ys. f x ∷ ys) rest
-    at rest false = rest
 
 pub count_mapped : {A B : Type 0} (f : A → B) (P : B → Bool) (Q : A → Bool) (xs : List A) → ((x : A) → Has xs x → P (f x) ≡ Q x) → count_by Q xs ≡ count_by P (map f xs)
 count_mapped f P Q [] e = refl
@@ -43,23 +36,6 @@ count_mapped f P Q (x ∷ xs) e =
     ∙ ap (λ b. cond b 1 0 + count_by Q xs) (sym (e x (inl refl)))
     ∙ ap (λ n. cond (P (f x)) 1 0 + n) (count_mapped f P Q xs (λ y h. e y (inr h)))
     ∙ sym (sum_by-cons (λ y. cond (P y) 1 0) (f x) (map f xs))
-
-pub map_twice : {A B C : Type 0} (g : B → C) (f : A → B) (xs : List A) → map g (map f xs) ≡ map (λ x. g (f x)) xs
-map_twice g f [] = refl
-map_twice g f (x ∷ xs) = ap (λ ys. g (f x) ∷ ys) (map_twice g f xs)
-
-same_tail : {A : Type 0} {x y : A} {xs ys : List A} → x ∷ xs ≡ y ∷ ys → xs ≡ ys
-same_tail {A = A} {xs = xs} e = ap rest e
-  where
-    rest : List A → List A
-    rest [] = xs
-    rest (z ∷ zs) = zs
-
-not_nil : {A : Type 0} {x : A} {xs : List A} → x ∷ xs ≡ [] → ⊥
-not_nil e = cc
-
-nil_not : {A : Type 0} {x : A} {xs : List A} → [] ≡ x ∷ xs → ⊥
-nil_not e = cc
 
 and_true : (a b : Bool) → (a && b) ≡ true → (a ≡ true) × (b ≡ true)
 and_true true b e = (refl, e)
@@ -74,7 +50,7 @@ module _ (t : TextParts) (L : Listing) (is : IsListing L) (same : netlist L ≡ 
   pub found : (r : CompRow) → Has L.comps r → get (listed_netlist t).comps r.name ≡ Some (component L.nets r)
   found r h = let i = at_has L.comps r h in ap (λ (N : Netlist). get N.comps r.name) (sym same) ∙ comp_is L is i.0 r i.1
 
-  stock_at : (r : CompRow) → Has L.comps r → is_in_stock t r.name ≡ stock_row r
+  pub stock_at : (r : CompRow) → Has L.comps r → is_in_stock t r.name ≡ stock_row r
   stock_at r h = ap (is_stock_at t.desk r.name) (found r h)
 
   pub named_stock : map (λ (r : CompRow). r.name) (filter stock_row L.comps) ≡ stock_names t
@@ -88,7 +64,7 @@ module _ (t : TextParts) (L : Listing) (is : IsListing L) (same : netlist L ≡ 
   -- ---- the spares that were found
 
   abbrev SpareIs : CompRow → Spare → Type 0
-  SpareIs r s = (r.name ≡ s.name) × (r.place ≡ Some s.point)
+  SpareIs r s = (r.name ≡ s.name) × (r.place ≡ Some s.centre)
 
   abbrev AtNumber : Spare → Type 0
   AtNumber s = slice_get (listed_names L) s.comp ≡ Some s.name
@@ -96,57 +72,43 @@ module _ (t : TextParts) (L : Listing) (is : IsListing L) (same : netlist L ≡ 
   pair_is : (r : CompRow) (s : Spare) → place_of_spare s ≡ place_in_row r → SpareIs r s
   pair_is r s e = (ap (λ (p : Name × Option Point). p.0) (sym e), ap (λ (p : Name × Option Point). p.1) (sym e))
 
-  row_at : (rows : List CompRow) (i : ℕ) (n : Name) → slice_get (map (λ (r : CompRow). r.name) rows) i ≡ Some n → (r : CompRow) × (slice_get rows i ≡ Some r) × (r.name ≡ n)
-  row_at [] i n e = absurd (not_None (sym e))
-  row_at (r ∷ rows) zero n e = (r, refl, same_Some e)
-  row_at (r ∷ rows) (suc i) n e = row_at rows i n e
-
-  -- the row of a spare's number is the component's
-  numbered : (r : CompRow) (s : Spare) → Has L.comps r → SpareIs r s → AtNumber s → (q : CompRow) × (slice_get L.comps s.comp ≡ Some q) × (kind_of q.kind ≡ kind_of r.kind)
-  numbered r s h of at =
-      let q = row_at L.comps s.comp s.name at in
-      let there = found q.0 (has_at L.comps s.comp q.0 q.1) in
-      let one : component L.nets q.0 ≡ component L.nets r = same_Some (sym there ∙ ap (get (listed_netlist t).comps) (q.2 ∙ sym of.0) ∙ found r h) in
-      (q.0, q.1, ap (λ (x : Component). x.kind) one)
-
-  gate_of : (r : CompRow) → stock_row r ≡ true → is_gate (kind_of r.kind) ≡ true
+  gate_of : (r : CompRow) → stock_row r ≡ true → is_gate (given_kind r.kind) ≡ true
   gate_of r e =
       let named = and_true (is_spare_named t.desk.prefixes r.name) _ e in
       let placed = and_true _ (is_idle t.desk (component L.nets r)) named.1 in
-      (and_true (is_gate (kind_of r.kind)) _ placed.1).0
+      (and_true (is_gate (given_kind r.kind)) _ placed.1).0
 
-  gate_row : (r : CompRow) (s : Spare) → Has (filter stock_row L.comps) r → SpareIs r s → AtNumber s → IsGateRow (slice_get L.comps s.comp)
-  gate_row r s h of at =
-      let f = of_filter stock_row L.comps r h in
-      let q = numbered r s f.0 of at in
-      subst IsGateRow (sym q.1) (ap is_gate q.2 ∙ gate_of r f.1)
+  abbrev HasEntry : Spare → Type 0
+  HasEntry s = IsSome (entry_at t s.comp)
 
-  pub gate_rows : (rows : List CompRow) (spares : List Spare) → ((r : CompRow) → Has rows r → Has (filter stock_row L.comps) r) → map place_of_spare spares ≡ map place_in_row rows
-      → All AtNumber spares → All (λ (s : Spare). IsGateRow (slice_get L.comps s.comp)) spares
-  gate_rows rows [] in' e at = All-nil (λ (s : Spare). IsGateRow (slice_get L.comps s.comp))
-  gate_rows [] (s ∷ spares) in' e at = absurd (not_nil e)
-  gate_rows (r ∷ rows) (s ∷ spares) in' e at =
-      All-cons (λ (s : Spare). IsGateRow (slice_get L.comps s.comp)) s spares
-      (gate_row r s (in' r (inl refl)) (pair_is r s (same_head e)) (All-head AtNumber s spares at))
-      (gate_rows rows spares (λ q h. in' q (inr h)) (same_tail e) (All-tail AtNumber s spares at))
-
-  abbrev kind_at : Spare → Option Given
-  kind_at s = option_map (λ (r : CompRow). r.kind) (slice_get L.comps s.comp)
-
-  spare_of : (r : CompRow) (s : Spare) (f : MasterTables) → Has (filter stock_row L.comps) r → SpareIs r s → AtNumber s → Some (Gate f) ≡ kind_at s → IsSpareOf t s f
-  spare_of r s f h of at k =
+  -- what the component of a spare's number computes
+  entry_row : (r : CompRow) (s : Spare) → Has (filter stock_row L.comps) r → SpareIs r s → AtNumber s → (f : MasterTables) × (entry_at t s.comp ≡ Some f) × (given_kind r.kind ≡ given_kind (Gate f))
+  entry_row r s h of at =
       let g = of_filter stock_row L.comps r h in
-      let q = numbered r s g.0 of at in
-      let kind : Gate f ≡ q.0.kind = same_Some (k ∙ ap (option_map (λ (r : CompRow). r.kind)) q.1) in
+      entry_of_gate t (subst AreDistinctNames names is.comps) s.comp s.name (component L.nets r) (ap (λ ns. slice_get ns s.comp) (sym names) ∙ at)
+      (ap (get (listed_netlist t).comps) (sym of.0) ∙ found r g.0) (gate_of r g.1)
+
+  pub entry_rows : (rows : List CompRow) (spares : List Spare) → ((r : CompRow) → Has rows r → Has (filter stock_row L.comps) r) → map place_of_spare spares ≡ map place_in_row rows → All AtNumber spares → All HasEntry spares
+  entry_rows rows [] in' e at = All-nil HasEntry
+  entry_rows [] (s ∷ spares) in' e at = absurd (not_nil e)
+  entry_rows (r ∷ rows) (s ∷ spares) in' e at =
+      let f = entry_row r s (in' r (inl refl)) (pair_is r s (same_head e)) (All-head AtNumber s spares at) in
+      All-cons HasEntry s spares (ap is_some f.1) (entry_rows rows spares (λ q h. in' q (inr h)) (same_tail e) (All-tail AtNumber s spares at))
+
+  spare_of : (r : CompRow) (s : Spare) (f : MasterTables) → Has (filter stock_row L.comps) r → SpareIs r s → AtNumber s → Some f ≡ entry_at t s.comp → IsSpareOf t s f
+  spare_of r s f h of at k =
+      let g = entry_row r s h of at in
       record {
         comp = component L.nets r;
-        found = ap (get (listed_netlist t).comps) (sym of.0) ∙ found r g.0;
+        found = ap (get (listed_netlist t).comps) (sym of.0) ∙ found r (of_filter stock_row L.comps r h).0;
         place = of.1;
-        function = sym q.2 ∙ ap kind_of (sym kind);
+        number = ap (position (bytes_eq s.name)) (sym names) ∙ place_of (listed_names L) s.comp s.name is.comps at;
+        entry = sym k;
+        function = g.2 ∙ ap (λ (f : MasterTables). given_kind (Gate f)) (sym (same_Some (k ∙ g.1)));
       }
 
   pub spares_of : (rows : List CompRow) (spares : List Spare) (fs : List MasterTables) → ((r : CompRow) → Has rows r → Has (filter stock_row L.comps) r) → map place_of_spare spares ≡ map place_in_row rows
-      → All AtNumber spares → map (λ f. Some (Gate f)) fs ≡ map kind_at spares → AllZip (IsSpareOf t) spares fs
+      → All AtNumber spares → map (λ f. Some f) fs ≡ map (λ (s : Spare). entry_at t s.comp) spares → AllZip (IsSpareOf t) spares fs
   spares_of rows [] [] in' e at k = tt
   spares_of rows [] (f ∷ fs) in' e at k = absurd (not_nil k)
   spares_of rows (s ∷ spares) [] in' e at k = absurd (nil_not k)

@@ -9,9 +9,9 @@ use Rattle.eco_net.specs.declared.rows.CompRow.{CompRow}
 use Rattle.eco_net.specs.declared.ids.CompId.{CompId}
 use Rattle.eco_net.specs.declared.ids.PinRef.{PinRef}
 use Rattle.eco_net.specs.declared.ids.PinRef.TheVariants.{Pin as PinNumber}
-use Rattle.eco_net.specs.Netlist.{Name, Netlist, Component, Pin, CompPin, Computes, role_of, inputs_of}
+use Rattle.eco_net.specs.Netlist.{Name, Netlist, Component, Pin, CompPin, GateOutput, role_of, input_nets}
 use Rattle.eco_net.specs.Drivers.{IsDriver}
-use Rattle.eco_net.specs.Listing.{Listing, netlist, component, comp_names, net_name, pin_named, IsKnownPin}
+use Rattle.eco_net.specs.Listing.{Listing, netlist, component, comp_names, net_name, numbered_pin, IsKnownPin}
 use Rattle.eco_net.specs.Kept.{IsListing}
 use Rattle.eco_net.proofs.Basics.{same_Some, not_None}
 use Rattle.eco_net.proofs.Named.{comp_is, net_is, role_is}
@@ -29,13 +29,13 @@ module _ (L : Listing) (is : IsListing L) (prefixes : List Name) where
     abbrev row : CompRow
     row = (pin_row L is c.0 k known).row
 
-    abbrev pin_is : pin_named L (PinNumber c k) ≡ CompPin (pin_row L is c.0 k known).row.name (pin_row L is c.0 k known).pin.0
+    abbrev pin_is : numbered_pin L (PinNumber c k) ≡ CompPin (pin_row L is c.0 k known).row.name (pin_row L is c.0 k known).pin.0
     pin_is = pin_name_is L c.0 k (pin_row L is c.0 k known)
 
     same_comp : (pin_row L is c.0 k known).row.name ≡ name
     same_comp = let w = pin_row L is c.0 k known in same_Some (sym (slice_get-map (λ (r : CompRow). r.name) L.comps c.0 ∙ ap (option_map (λ (r : CompRow). r.name)) w.is) ∙ named)
 
-    pub output_named : (kind : Kind) → option_map (λ r. r.kind) (slice_get L.comps c.0) ≡ Some kind → is_spare_named prefixes name ≡ false → constant_at kind k ≡ Some b → IsTieOutput prefixes (netlist L) (pin_named L (PinNumber c k)) b
+    pub output_named : (kind : Kind) → option_map (λ r. r.kind) (slice_get L.comps c.0) ≡ Some kind → is_spare_named prefixes name ≡ false → constant_at kind k ≡ Some b → IsTieOutput prefixes (netlist L) (numbered_pin L (PinNumber c k)) b
     output_named kind at free e =
         let w = pin_row L is c.0 k known in
         let kinds : w.row.kind ≡ kind = same_Some (sym (ap (option_map (λ (r : CompRow). r.kind)) w.is) ∙ at) in
@@ -48,14 +48,14 @@ module _ (L : Listing) (is : IsListing L) (prefixes : List Name) where
           role_is L is c.0 w.row k w.pin w.is w.at ∙ ap Some v.1,
         )
 
-    pub named_output : (kind : Kind) → option_map (λ r. r.kind) (slice_get L.comps c.0) ≡ Some kind → IsTieOutput prefixes (netlist L) (pin_named L (PinNumber c k)) b → (is_spare_named prefixes name ≡ false) × (constant_at kind k ≡ Some b)
+    pub named_output : (kind : Kind) → option_map (λ r. r.kind) (slice_get L.comps c.0) ≡ Some kind → IsTieOutput prefixes (netlist L) (numbered_pin L (PinNumber c k)) b → (is_spare_named prefixes name ≡ false) × (constant_at kind k ≡ Some b)
     named_output kind at t =
         let w = pin_row L is c.0 k known in
         let kinds : w.row.kind ≡ kind = same_Some (sym (ap (option_map (λ (r : CompRow). r.kind)) w.is) ∙ at) in
         let o = subst (λ p. IsTieOutput prefixes (netlist L) p b) (pin_name_is L c.0 k w) t in
         let x : o.1 ≡ component L.nets w.row = same_Some (sym o.2 ∙ comp_is L is c.0 w.row w.is) in
-        let none = (no_inputs (component L.nets w.row)).0 (ap inputs_of (sym x) ∙ o.3) in
-        let role : w.pin.1 ≡ Computes (b ∷ []) = same_Some (sym (role_is L is c.0 w.row k w.pin w.is w.at) ∙ ap (λ (y : Component). role_of y w.pin.0) (sym x) ∙ o.4) in (
+        let none = (no_inputs (component L.nets w.row)).0 (ap input_nets (sym x) ∙ o.3) in
+        let role : w.pin.1 ≡ GateOutput (b ∷ []) = same_Some (sym (role_is L is c.0 w.row k w.pin w.is w.at) ∙ ap (λ (y : Component). role_of y w.pin.0) (sym x) ∙ o.4) in (
           ap (is_spare_named prefixes) (sym same_comp) ∙ o.0,
           ap (λ y. constant_at y k) (sym kinds) ∙ named_constant w.row.kind k w.pin b (is.rows c.0 w.row w.is).kind.rows w.at none role,
         )
@@ -79,11 +79,11 @@ module _ (L : Listing) (is : IsListing L) (prefixes : List Name) where
       )
 
   -- another net is one by its driver
-  pub driven_by : (n : ℕ) (p : PinRef) (b : Bool) → option_map (λ r. r.supply) (slice_get L.nets n) ≡ Some None → IsDriver (netlist L) (net_name L.nets n) (pin_named L p) → IsTieNet prefixes (netlist L) (net_name L.nets n) b ↔ IsTieOutput prefixes (netlist L) (pin_named L p) b
+  pub driven_by : (n : ℕ) (p : PinRef) (b : Bool) → option_map (λ r. r.supply) (slice_get L.nets n) ≡ Some None → IsDriver (netlist L) (net_name L.nets n) (numbered_pin L p) → IsTieNet prefixes (netlist L) (net_name L.nets n) b ↔ IsTieOutput prefixes (netlist L) (numbered_pin L p) b
   driven_by n p b e d =
       let at = supply_is n None e in (
         λ t. ⊎_elim (λ h. absurd (none_some (sym at ∙ h))) (λ w. subst (λ q. IsTieOutput prefixes (netlist L) q b) (d.only w.1 w.2.drives) w.3) t,
-        λ o. inr (at, pin_named L p, d, o),
+        λ o. inr (at, numbered_pin L p, d, o),
       )
 
   pub undriven : (n : ℕ) (b : Bool) → option_map (λ r. r.supply) (slice_get L.nets n) ≡ Some None → ((q : Pin) → IsDriver (netlist L) (net_name L.nets n) q → ⊥) → IsTieNet prefixes (netlist L) (net_name L.nets n) b → ⊥

@@ -6,7 +6,7 @@ use Rattle.std.specs.Str.{bytes_eq}
 use Rattle.std.proofs.lemmas.Bool.{and_parts}
 use Rattle.std.proofs.lemmas.Slice.Eq.{bytes_eq-Decides}
 use Rattle.eco_common.specs.declared.geometry.Dir.{Dir}
-use Rattle.eco_net.specs.Netlist.{Name, Component, Kind, Gate, Boxed, Role, Reads, Computes, Outside, pins_of, role_of}
+use Rattle.eco_net.specs.Netlist.{Name, Component, Kind, Gate, Boxed, Role, GateInput, GateOutput, BoxedPin, pins_of, role_of}
 use Rattle.eco_net.specs.Drivers.{dir_of_role}
 use Rattle.eco_net.proofs.Basics.{Has, has_of_map}
 use Rattle.eco_net.proofs.AllPins.{split_has}
@@ -57,8 +57,8 @@ module _ (desk : Desk) (x : Component) where
         named = a.0;
         placed = some_of x.place b.0;
         gate = gate_of x.kind d.0;
-        tied = λ p e. on_tie desk (get x.joined p) (rests_by_role d.1 p Reads e);
-        off = λ p t e. none_of (get x.joined p) (rests_by_role d.1 p (Computes t) e);
+        tied = λ p e. on_tie desk (get x.joined p) (rests_by_role d.1 p GateInput e);
+        off = λ p t e. none_of (get x.joined p) (rests_by_role d.1 p (GateOutput t) e);
       }
 
   -- ---- to the test
@@ -77,17 +77,17 @@ module _ (desk : Desk) (x : Component) where
       or_true true b e = refl
       or_true false b e = e
 
-  no_outside : {d : Dir} → Reads ≡ Outside d → ⊥
+  no_outside : {d : Dir} → GateInput ≡ BoxedPin d → ⊥
   no_outside e = cc
 
-  no_outside_out : {t : List Bool} {d : Dir} → Computes t ≡ Outside d → ⊥
+  no_outside_out : {t : List Bool} {d : Dir} → GateOutput t ≡ BoxedPin d → ⊥
   no_outside_out e = cc
 
-  inside : (ins : List Name) (outs : List (Name × List Bool)) (p : Name × Role) → Has (pins_of (Gate ins outs)) p → (d : Dir) → p.1 ≡ Outside d → ⊥
+  inside : (ins : List Name) (outs : List (Name × List Bool)) (p : Name × Role) → Has (pins_of (Gate ins outs)) p → (d : Dir) → p.1 ≡ BoxedPin d → ⊥
   inside ins outs p h d e = ⊎_elim
-      (λ i. let w = has_of_map {B = Name × Role} (λ n. (n, Reads)) ins p i in no_outside (ap (λ (q : Name × Role). q.1) w.2 ∙ e))
-      (λ i. let w = has_of_map {B = Name × Role} (λ o. (o.0, Computes o.1)) outs p i in no_outside_out (ap (λ (q : Name × Role). q.1) w.2 ∙ e))
-      (split_has (map {B = Name × Role} (λ n. (n, Reads)) ins) _ p h)
+      (λ i. let w = has_of_map {B = Name × Role} (λ n. (n, GateInput)) ins p i in no_outside (ap (λ (q : Name × Role). q.1) w.2 ∙ e))
+      (λ i. let w = has_of_map {B = Name × Role} (λ o. (o.0, GateOutput o.1)) outs p i in no_outside_out (ap (λ (q : Name × Role). q.1) w.2 ∙ e))
+      (split_has (map {B = Name × Role} (λ n. (n, GateInput)) ins) _ p h)
 
   pub words_to : (c : Name) → ((p : Name × Role) (i : ℕ) → slice_get (pins_of x.kind) i ≡ Some p → role_of x p.0 ≡ Some p.1) → IsStock desk c x → is_stock desk c x ≡ true
   words_to c roles s =
@@ -97,9 +97,9 @@ module _ (desk : Desk) (x : Component) where
       ap₂ (λ a b. a && b) s.named (ap₂ (λ a b. a && b) (ap is_some s.placed.1) (ap₂ (λ a b. a && b) (ap is_gate s.gate.2) (all_of (pins_of x.kind) each)))
     where
       at : (p : Name × Role) (i : ℕ) → slice_get (pins_of x.kind) i ≡ Some p → (r : Role) → p.1 ≡ r → role_of x p.0 ≡ Some p.1 → rests p ≡ true
-      at p i e Reads f g = ap (λ r. is_at_rest desk (dir_of_role r) (get x.joined p.0)) f ∙ is_tie (get x.joined p.0) (s.tied p.0 (g ∙ ap Some f))
-      at p i e (Computes t) f g = ap (λ r. is_at_rest desk (dir_of_role r) (get x.joined p.0)) f ∙ ap (λ o. not (is_some o)) (s.off p.0 t (g ∙ ap Some f))
-      at p i e (Outside d) f g = absurd (inside s.gate.0 s.gate.1 p (subst (λ k. Has (pins_of k) p) s.gate.2 (has_at (pins_of x.kind) i p e)) d f)
+      at p i e GateInput f g = ap (λ r. is_at_rest desk (dir_of_role r) (get x.joined p.0)) f ∙ is_tie (get x.joined p.0) (s.tied p.0 (g ∙ ap Some f))
+      at p i e (GateOutput t) f g = ap (λ r. is_at_rest desk (dir_of_role r) (get x.joined p.0)) f ∙ ap (λ o. not (is_some o)) (s.off p.0 t (g ∙ ap Some f))
+      at p i e (BoxedPin d) f g = absurd (inside s.gate.0 s.gate.1 p (subst (λ k. Has (pins_of k) p) s.gate.2 (has_at (pins_of x.kind) i p e)) d f)
 
 pub in_words : StockInWords
 in_words desk N whole c x is = (

@@ -1,9 +1,9 @@
--- How much a base has.
+-- Counts of what a base has.
 use Rattle.std.specs.Prelude.{◌≡◌, ◌+◌, Bool, false, not, length, count_by, Option, Some, None}
 use Rattle.std.specs.FinMap.{get, len}
 use Rattle.eco_net.specs.declared.rows.CompRow.{CompRow}
 use Rattle.eco_net.specs.Netlist.{Name, Component}
-use Rattle.eco_net.specs.Listing.{Listing, netlist, kind_of}
+use Rattle.eco_net.specs.Listing.{Listing, netlist, given_kind}
 use Rattle.eco_net.specs.JoinedPins.{joined_pins}
 use Rattle.eco_base.specs.declared.stock.Stock.{Stock}
 use Rattle.eco_base.specs.Stock.{is_gate}
@@ -19,7 +19,8 @@ is_gate_at (Some x) = is_gate x.kind
 abbrev pub is_named_gate : TextParts → Name → Bool
 is_named_gate t c = is_gate_at (get (full_netlist t).comps c)
 
--- The components are those of the design, each a gate or a box. A pin is counted where it is on a net; each top pin is.
+-- The components are those of the design, each a gate or a box. A pin of a component is counted where it is on a net, and
+-- each top pin is counted.
 pub record IsCensusOf (t : TextParts) (c : Census) : Type 0 where
   pub components : c.components ≡ length (comp_names t)
   pub gates : c.gates ≡ count_by (is_named_gate t) (comp_names t)
@@ -32,7 +33,7 @@ pub record IsCensusOf (t : TextParts) (c : Census) : Type 0 where
 -- ---- the same by rows
 
 abbrev pub is_gate_row : CompRow → Bool
-is_gate_row r = is_gate (kind_of r.kind)
+is_gate_row r = is_gate (given_kind r.kind)
 
 -- of a listing whose stock was found
 pub record IsCensusOfRows (L : Listing) (found : Stock) (c : Census) : Type 0 where

@@ -6,7 +6,7 @@ use Rattle.eco_func.specs.Masters.{MasterTables}
 use Rattle.eco_net.specs.declared.kind.Kind.{Kind}
 use Rattle.eco_net.specs.declared.kind.Kind.TheVariants.{Gate, Boxed}
 
--- the value of the output of a number, where the master has no inputs
+-- the value of the output at a number, where the master has no inputs
 abbrev pub constant_in : MasterTables → ℕ → Option Bool
 constant_in m k = cond (length m.inputs == 0) (option_map (λ o. at o.table 0) (slice_get m.outputs k)) None
 

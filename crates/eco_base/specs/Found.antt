@@ -14,7 +14,7 @@ use Rattle.eco_base.specs.Stock.{is_stock}
 abbrev pub is_stock_row : Desk → List NetRow → CompRow → Bool
 is_stock_row desk nets r = is_stock desk r.name (component nets r)
 
--- the component of a row is spare-named, and stays ordinary
+-- the component of a row is spare-named, and isn't stock
 abbrev pub is_skipped_row : Desk → List NetRow → CompRow → Bool
 is_skipped_row desk nets r = is_spare_named desk.prefixes r.name && not (is_stock_row desk nets r)
 
@@ -27,7 +27,7 @@ abbrev pub place_in_row : CompRow → Name × Option Point
 place_in_row r = (r.name, r.place)
 
 abbrev pub place_of_spare : Spare → Name × Option Point
-place_of_spare s = (s.name, Some s.point)
+place_of_spare s = (s.name, Some s.centre)
 
 -- the component of each spare's number has its name
 abbrev pub AreNumbered : Listing → List Spare → Type 0

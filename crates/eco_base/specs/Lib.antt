@@ -2,6 +2,7 @@ pub mod Ties
 pub mod Constants
 pub mod Stock
 pub mod Found
+pub mod SparePoints
 pub mod StockLaws
 pub mod Without
 pub mod Digests
@@ -9,8 +10,10 @@ pub mod Texts
 pub mod TextFaults
 pub mod Joined
 pub mod Stocks
+pub mod Order
 pub mod Census
 pub mod Bases
+pub mod Parts
 pub mod Stocked
 pub mod Opened
 pub mod Limits

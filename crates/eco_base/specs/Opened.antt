@@ -5,11 +5,11 @@ use Rattle.eco_net.specs.Netlist.{Name}
 use Rattle.eco_net.specs.Walks.{IsClosedWalk}
 use Rattle.eco_net.specs.Bases.{bare}
 use Rattle.eco_base.specs.declared.fault.BaseFault.{BaseFault}
-use Rattle.eco_base.specs.declared.fault.BaseFault.TheVariants.{Lef, Def, Func, Desk, TieNotConstant, TooMuchStock, Loop, Memory}
+use Rattle.eco_base.specs.declared.fault.BaseFault.TheVariants.{Lef, Def, Func, Desk, UnknownMaster, FunctionPins, UnknownPin, PinNetDiffers, PatternOnSignal, SupplyDiffers, TieNotConstant, TooMuchStock, Loop, Memory}
 use Rattle.eco_base.specs.Digests.{digest_of}
 use Rattle.eco_base.specs.Texts.{TextParts, IsReadFrom}
-use Rattle.eco_base.specs.TextFaults.{BlamesTexts}
-use Rattle.eco_base.specs.Joined.{AreJoined, BlamesJoints}
+use Rattle.eco_base.specs.TextFaults.{HasLefFault, HasDefFault, HasFuncFault, HasDeskFault, HasLibrary, HasDesign, HasFunctions}
+use Rattle.eco_base.specs.Joined.{HasUnknownMaster, HasFunctionPins, HasUnknownPin, HasPinOnTwoNets, HasPattern, HasTwoValues, MastersAreKnown, MastersFit, JointsNamePins, PinsHaveOneNet, PatternsAreSupply, AreJoined}
 use Rattle.eco_base.specs.Bases.{BaseParts, IsTied, stock_names, frozen, IsOpen}
 
 -- ---- tie nets, stock and loops
@@ -24,24 +24,41 @@ AreTied t = IsTied t true × IsTied t false
 abbrev pub HasFewSpares : TextParts → Type 0
 HasFewSpares t = length (stock_names t) ≤ MAX_STOCK
 
-abbrev pub BlamesStock : TextParts → BaseFault → Type 0
-BlamesStock t (TieNotConstant net) = IsUntied t net
-BlamesStock t (TooMuchStock count) = AreTied t × (count ≡ length (stock_names t)) × (MAX_STOCK < count)
-BlamesStock t (Loop nets) = AreTied t × HasFewSpares t × IsClosedWalk (bare (frozen t)) nets
-BlamesStock t Memory = Unit {0}
-BlamesStock t other = ⊥
+abbrev pub HasTooMuchStock : TextParts → ℕ → Type 0
+HasTooMuchStock t count = (count ≡ length (stock_names t)) × (MAX_STOCK < count)
+
+-- a signal runs through these nets and back to the first, past gates that aren't in the stock
+abbrev pub HasLoop : TextParts → List Name → Type 0
+HasLoop t nets = IsClosedWalk (bare (frozen t)) nets
 
 -- ---- all faults
 
--- Each text can be read, and they have this fault: of masters, joints and supplies, or, where there is none of those, of tie
--- nets, stock and loops.
-abbrev pub BlamesRead : TextParts → BaseFault → Type 0
-BlamesRead t fault = BlamesJoints t fault ⊎ (AreJoined t × BlamesStock t fault)
+-- the four texts can be read, and what they say has P
+abbrev pub Say : (lef def functions desk : List ℕ) → (TextParts → Type 0) → Type 0
+Say lef def functions desk P = (t : TextParts) × IsReadFrom lef def functions desk t × P t
 
--- The first fault of the texts. Want of memory may come with any texts.
-abbrev pub IsFirstFault : List ℕ → List ℕ → List ℕ → List ℕ → BaseFault → Type 0
-IsFirstFault lef def functions desk fault =
-    BlamesTexts lef def functions desk fault ⊎ ((t : TextParts) × IsReadFrom lef def functions desk t × BlamesRead t fault)
+-- The first fault of the texts: what holds before it, and last its own cause. Out of memory may be returned for any texts.
+abbrev pub IsFirstFault : (lef def functions desk : List ℕ) → BaseFault → Type 0
+IsFirstFault lef def functions desk (Lef fault) = HasLefFault lef fault
+IsFirstFault lef def functions desk (Def fault) = HasLibrary lef × HasDefFault def fault
+IsFirstFault lef def functions desk (Func fault) = HasLibrary lef × HasDesign def × HasFuncFault functions fault
+IsFirstFault lef def functions desk (Desk field) = HasLibrary lef × HasDesign def × HasFunctions functions × HasDeskFault desk field
+IsFirstFault lef def functions desk (UnknownMaster comp) = Say lef def functions desk (λ t. HasUnknownMaster t comp)
+IsFirstFault lef def functions desk (FunctionPins master pin) = Say lef def functions desk (λ t. MastersAreKnown t × HasFunctionPins t master pin)
+IsFirstFault lef def functions desk (UnknownPin net place) = Say lef def functions desk (λ t. MastersFit t × HasUnknownPin t net place)
+IsFirstFault lef def functions desk (PinNetDiffers pin first second) = Say lef def functions desk (λ t. MastersFit t × JointsNamePins t × HasPinOnTwoNets t pin first second)
+IsFirstFault lef def functions desk (PatternOnSignal net pin) = Say lef def functions desk (λ t. MastersFit t × JointsNamePins t × PinsHaveOneNet t × HasPattern t net pin)
+IsFirstFault lef def functions desk (SupplyDiffers net) = Say lef def functions desk (λ t. MastersFit t × JointsNamePins t × PinsHaveOneNet t × PatternsAreSupply t × HasTwoValues t net)
+IsFirstFault lef def functions desk (TieNotConstant net) = Say lef def functions desk (λ t. AreJoined t × IsUntied t net)
+IsFirstFault lef def functions desk (TooMuchStock count) = Say lef def functions desk (λ t. AreJoined t × AreTied t × HasTooMuchStock t count)
+IsFirstFault lef def functions desk (Loop nets) = Say lef def functions desk (λ t. AreJoined t × AreTied t × HasFewSpares t × HasLoop t nets)
+IsFirstFault lef def functions desk Memory = Unit {0}
+
+-- the first fault of any texts that say these parts
+abbrev pub IsFirstOf : TextParts → BaseFault → Type 0
+IsFirstOf t fault = (lef def functions desk : List ℕ) → IsReadFrom lef def functions desk t → IsFirstFault lef def functions desk fault
+
+-- ---- the base
 
 -- the base of these texts
 pub record IsOpened (lef def functions desk : List ℕ) (b : BaseParts) : Type 0 where

@@ -6,7 +6,7 @@ use Rattle.std.specs.FinMap.{get}
 use Rattle.eco_common.specs.declared.geometry.Dir.{Dir}
 use Rattle.eco_common.specs.declared.geometry.Point.{Point}
 use Rattle.eco_common.specs.declared.geometry.Dir.TheVariants.{Input, Output, Inout}
-use Rattle.eco_net.specs.Netlist.{Name, Kind, Gate, Boxed, Component, Reads, Computes, pins_of, role_of}
+use Rattle.eco_net.specs.Netlist.{Name, Kind, Gate, Boxed, Component, GateInput, GateOutput, pins_of, role_of}
 use Rattle.eco_net.specs.Drivers.{dir_of_role}
 use Rattle.eco_desk_file.specs.Desk.{Desk, is_spare_named}
 
@@ -15,7 +15,7 @@ abbrev pub is_on_tie : Desk → Option Name → Bool
 is_on_tie desk None = false
 is_on_tie desk (Some n) = bytes_eq desk.high n || bytes_eq desk.low n
 
--- An input is at rest on a tie net, an output on no net. No gate has a pin of another direction.
+-- An input is at rest on a tie net, and an output where it is unconnected. No gate has a pin of another direction.
 abbrev pub is_at_rest : Desk → Dir → Option Name → Bool
 is_at_rest desk Input n = is_on_tie desk n
 is_at_rest desk Output n = not (is_some n)
@@ -25,7 +25,7 @@ abbrev pub is_gate : Kind → Bool
 is_gate (Gate inputs outputs) = true
 is_gate (Boxed pins) = false
 
--- a gate with every input on one of the tie nets and every output on no net
+-- a gate with every input on one of the tie nets and every output unconnected
 abbrev pub is_idle : Desk → Component → Bool
 is_idle desk x = is_gate x.kind && list_all (λ p. is_at_rest desk (dir_of_role p.1) (get x.joined p.0)) (pins_of x.kind)
 
@@ -38,5 +38,5 @@ pub record IsStock (desk : Desk) (c : Name) (x : Component) : Type 0 where
   pub named : is_spare_named desk.prefixes c ≡ true
   pub placed : (point : Point) × (x.place ≡ Some point)
   pub gate : (inputs : List Name) × (outputs : List (Name × List Bool)) × (x.kind ≡ Gate inputs outputs)
-  pub tied : (p : Name) → role_of x p ≡ Some Reads → (get x.joined p ≡ Some desk.high) ⊎ (get x.joined p ≡ Some desk.low)
-  pub off : (p : Name) (table : List Bool) → role_of x p ≡ Some (Computes table) → get x.joined p ≡ None
+  pub tied : (p : Name) → role_of x p ≡ Some GateInput → (get x.joined p ≡ Some desk.high) ⊎ (get x.joined p ≡ Some desk.low)
+  pub off : (p : Name) (table : List Bool) → role_of x p ≡ Some (GateOutput table) → get x.joined p ≡ None

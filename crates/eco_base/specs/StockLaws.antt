@@ -1,7 +1,7 @@
 -- Laws of tie nets and of stock.
 use Rattle.std.specs.Prelude.{◌≡◌, ◌↔◌, Bool, true, List, Some}
 use Rattle.std.specs.FinMap.{get}
-use Rattle.eco_net.specs.Netlist.{Name, Netlist, Component, IsWhole}
+use Rattle.eco_net.specs.Netlist.{Name, Netlist, Component, IsWellFormed}
 use Rattle.eco_net.specs.Bases.{IsConstant, IsSpare, IsWithout}
 use Rattle.eco_desk_file.specs.Desk.{Desk}
 use Rattle.eco_base.specs.Ties.{IsTieNet}
@@ -16,10 +16,10 @@ abbrev pub TieNetsStayConstant : Type 0
 TieNetsStayConstant =
     (prefixes : List Name) (M N : Netlist) (n : Name) (b : Bool) → IsWithout M N → IsTieNet prefixes M n b → IsConstant N n b
 
--- Stock is a gate whose outputs are on no net.
+-- Stock is a gate whose outputs are unconnected.
 abbrev pub StockIsSpare : Type 0
 StockIsSpare = (desk : Desk) (c : Name) (x : Component) → is_stock desk c x ≡ true → IsSpare x
 
--- The test for stock says what stock is in words.
+-- The test for stock passes exactly for what the words say.
 abbrev pub StockInWords : Type 0
-StockInWords = (desk : Desk) (N : Netlist) → IsWhole N → (c : Name) (x : Component) → get N.comps c ≡ Some x → is_stock desk c x ≡ true ↔ IsStock desk c x
+StockInWords = (desk : Desk) (N : Netlist) → IsWellFormed N → (c : Name) (x : Component) → get N.comps c ≡ Some x → is_stock desk c x ≡ true ↔ IsStock desk c x

@@ -1,12 +1,15 @@
 -- The netlist of all components of a base's texts, and its stock.
-use Rattle.std.specs.Prelude.{◌≡◌, Bool, true, false, not, ◌&&◌, List, [], ◌∷◌, Option, Some, None}
-use Rattle.std.specs.List.{filter}
+use Rattle.std.specs.Prelude.{◌≡◌, ℕ, Bool, false, not, ◌&&◌, List, [], ◌∷◌, Option, Some, None, option_and_then, slice_get}
+use Rattle.std.specs.List.{filter, position}
 use Rattle.std.specs.FinMap.{get}
+use Rattle.std.specs.Str.{bytes_eq}
 use Rattle.eco_func.specs.Masters.{MasterTables}
+use Rattle.eco_func.specs.FunctionsFile.{find_master}
 use Rattle.eco_net.specs.Netlist.{Name, Netlist, Component}
-use Rattle.eco_net.specs.Listing.{kind_of}
+use Rattle.eco_net.specs.Listing.{given_kind}
 use Rattle.eco_net.specs.declared.kind.Kind.TheVariants.{Gate}
 use Rattle.eco_elaborate.specs.Netlists.{netlist_of}
+use Rattle.eco_elaborate.specs.Stated.{named_comps}
 use Rattle.eco_desk_file.specs.Desk.{Desk, is_spare_named}
 use Rattle.eco_base.specs.declared.stock.Spare.{Spare}
 use Rattle.eco_base.specs.Ties.{tie_name, IsTieNet}
@@ -39,13 +42,22 @@ is_in_stock t c = is_stock_at t.desk c (get (listed_netlist t).comps c)
 abbrev pub stock_names : TextParts → List Name
 stock_names t = filter (is_in_stock t) (comp_names t)
 
--- spare-named, and no stock
+-- spare-named, and not in the stock
 abbrev pub is_skipped : TextParts → Name → Bool
 is_skipped t c = is_spare_named t.desk.prefixes c && not (is_in_stock t c)
 
--- a spare stands where its component does, and has that component's function
+-- ---- what its spares compute
+
+-- The entry of the functions file for the component at a place in the design's text: the one that has the name of its master.
+abbrev pub entry_at : TextParts → ℕ → Option MasterTables
+entry_at t i = option_and_then (λ c. find_master c.model t.functions) (slice_get (named_comps t.text t.design.comps) i)
+
+-- A spare is a component of the netlist, and has its centre. Its number is the place of its name among the design's
+-- components, from 0. What it computes is the entry for that component.
 pub record IsSpareOf (t : TextParts) (s : Spare) (f : MasterTables) : Type 0 where
   pub comp : Component
   pub found : get (listed_netlist t).comps s.name ≡ Some comp
-  pub place : comp.place ≡ Some s.point
-  pub function : comp.kind ≡ kind_of (Gate f)
+  pub place : comp.place ≡ Some s.centre
+  pub number : position (bytes_eq s.name) (comp_names t) ≡ Some s.comp
+  pub entry : entry_at t s.comp ≡ Some f
+  pub function : comp.kind ≡ given_kind (Gate f)

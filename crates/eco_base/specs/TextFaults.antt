@@ -1,5 +1,4 @@
--- Why a base's texts can't be read: of the LEF, the DEF, the functions file and the desk file the first that is at fault, and
--- its own first fault.
+-- Whether a LEF, a DEF, a functions file and a desk file can be read, and the first fault of each.
 use Rattle.std.specs.Prelude.{◌≢◌, ℕ, List, Ok, Err}
 use Rattle.eco_common.specs.declared.limits.TheConstants.{MAX_MASTERS}
 use Rattle.eco_lef.specs.declared.master.Master.{Master}
@@ -15,7 +14,7 @@ use Rattle.eco_def.specs.Sections.{IsReadingOf}
 use Rattle.eco_func.specs.Masters.{MasterTables}
 use Rattle.eco_func.specs.declared.fault.FuncFault.{FuncFault}
 use Rattle.eco_func.specs.declared.fault.FuncFault.TheVariants.{Memory as NoRoomForFunctions}
-use Rattle.eco_func.specs.FunctionsFile.{Reads as ReadsFunctions}
+use Rattle.eco_func.specs.FunctionsFile.{ReadsFunctions}
 use Rattle.eco_desk_file.specs.DeskText.{Says}
 use Rattle.eco_base.specs.declared.fault.BaseFault.{BaseFault}
 use Rattle.eco_base.specs.declared.fault.BaseFault.TheVariants.{Lef, Def, Func, Desk, Memory}
@@ -46,7 +45,7 @@ HasDesign def = (design : Design) × IsReadingOf def design
 abbrev pub HasFunctions : List ℕ → Type 0
 HasFunctions functions = (tables : List MasterTables) × ReadsFunctions functions (Ok tables)
 
--- ---- one text alone: its fault, or want of memory
+-- ---- steps: one text alone, its first fault or out of memory
 
 abbrev pub BlamesLef : List ℕ → BaseFault → Type 0
 BlamesLef lef (Lef fault) = HasLefFault lef fault
@@ -67,13 +66,3 @@ abbrev pub BlamesDesk : List ℕ → BaseFault → Type 0
 BlamesDesk desk (Desk field) = HasDeskFault desk field
 BlamesDesk desk Memory = Unit {0}
 BlamesDesk desk other = ⊥
-
--- ---- all four
-
-abbrev pub BlamesTexts : List ℕ → List ℕ → List ℕ → List ℕ → BaseFault → Type 0
-BlamesTexts lef def functions desk (Lef fault) = HasLefFault lef fault
-BlamesTexts lef def functions desk (Def fault) = HasLibrary lef × HasDefFault def fault
-BlamesTexts lef def functions desk (Func fault) = HasLibrary lef × HasDesign def × HasFuncFault functions fault
-BlamesTexts lef def functions desk (Desk field) = HasLibrary lef × HasDesign def × HasFunctions functions × HasDeskFault desk field
-BlamesTexts lef def functions desk Memory = Unit {0}
-BlamesTexts lef def functions desk other = ⊥

@@ -5,12 +5,13 @@ use Rattle.eco_common.specs.declared.limits.TheConstants.{MAX_MASTERS}
 use Rattle.eco_lef.specs.declared.master.Master.{Master}
 use Rattle.eco_lef.specs.Grammar.{library_within}
 use Rattle.eco_lef.specs.Names.{HaveOwnNames, are_words}
+use Rattle.eco_lef.specs.Sizes.{KeepSizes}
 use Rattle.eco_def.specs.declared.design.Design.{Design}
 use Rattle.eco_def.specs.Sections.{IsReadingOf}
 use Rattle.eco_func.specs.Masters.{MasterTables, is_master}
-use Rattle.eco_func.specs.FunctionsFile.{Reads as ReadsFunctions}
+use Rattle.eco_func.specs.FunctionsFile.{ReadsFunctions}
 use Rattle.eco_desk_file.specs.Desk.{Desk}
-use Rattle.eco_desk_file.specs.DeskText.{Reads as ReadsDesk}
+use Rattle.eco_desk_file.specs.DeskText.{ReadsDesk}
 
 -- text: the DEF, whose design is given by places in it
 pub record TextParts : Type 0 where
@@ -20,11 +21,12 @@ pub record TextParts : Type 0 where
   pub functions : List MasterTables
   pub desk : Desk
 
--- The design is the text's reading. No two masters of the library have one name, and no two pins of a master; all these names
--- are words. Each of the functions makes a master.
+-- The design is the text's reading. No two masters of the library have the same name, and no two pins of a master have; all these
+-- names are words. No master is too large. Each entry of the functions file makes a master.
 pub record AreRead (t : TextParts) : Type 0 where
   pub reading : IsReadingOf t.text t.design
   pub own_names : HaveOwnNames t.library
+  pub sizes : KeepSizes t.library
   pub words : list_all are_words t.library ≡ true
   pub masters : All (λ m. is_master m.inputs m.outputs ≡ true) t.functions
 

@@ -1,4 +1,4 @@
--- The base of a netlist: its stock stands apart, and its tie nets are marked.
+-- The base of a netlist: its stock is set apart, and its tie nets are marked.
 use Rattle.std.specs.Prelude.{List, [], ◌∷◌, map}
 use Rattle.std.specs.FinSet.{from_list}
 use Rattle.eco_net.specs.Netlist.{Name, Netlist}

@@ -1,9 +1,9 @@
-//! An opened base: its texts, its netlist without the stock, and the stock.
+//! An opened base: its texts, its stock, and its netlist without the stock.
 
 use crate::Spare;
 use crate::census::Census;
-use crate::digest::digest_of;
 use crate::sources::Sources;
+use crate::stocked::Stocked;
 use crate::texts::Texts;
 use eco_common::Name;
 use eco_def::Design;
@@ -15,58 +15,42 @@ use std::marker::Model;
 #[derive(Drop)]
 pub struct Base {
     texts: Texts,
-    netlist: Netlist,
-    stock: Vec<Spare>,
-    functions: Vec<MasterFn>,
-    skipped: u32,
-    census: Census,
-    depth: u32,
+    stocked: Stocked,
     sources: Sources,
 }
 
 impl Model for Base {
-    ghost use Rattle.eco_base.specs.Digests.{digest_of as the_digest_of};
     ghost use Rattle.eco_base.specs.Bases.{BaseParts, IsOpen};
+    ghost use Rattle.eco_base.specs.Parts.{parts_of};
 
     ghost Value = { BaseParts };
 
-    ghost view = { λ b. record { texts = b.texts; listing = b.netlist; stock = b.stock.items; functions = b.functions.items; skipped = b.skipped; census = b.census; depth = b.depth; digest = the_digest_of b.sources.lef.items b.texts.text b.sources.functions.items b.sources.desk.items } };
+    ghost view = { λ b. parts_of b.texts b.stocked b.sources };
 
-    ghost invariant = { λ b. IsOpen (record { texts = b.texts; listing = b.netlist; stock = b.stock.items; functions = b.functions.items; skipped = b.skipped; census = b.census; depth = b.depth; digest = the_digest_of b.sources.lef.items b.texts.text b.sources.functions.items b.sources.desk.items }) };
+    ghost invariant = { λ b. IsOpen (parts_of b.texts b.stocked b.sources) };
 }
 
 impl Base {
     ghost use Rattle.std.specs.Prelude.{◌≡◌, ◌<◌, Some, length, slice_get};
+    ghost use Rattle.std.specs.List.{All};
+    ghost use Rattle.eco_elaborate.specs.Centres.{IsCentre};
     ghost use Rattle.eco_net.specs.Depth.{IsDepth};
     ghost use Rattle.eco_net.specs.Bases.{bare};
-    ghost use Rattle.eco_base.specs.Digests.{digest_of as the_digest_of};
     ghost use Rattle.eco_base.specs.Bases.{BaseParts, IsOpen, frozen};
     ghost use Rattle.eco_base.specs.Census.{IsCensusOf};
     ghost use Rattle.eco_base.specs.Limits.{KeepsLimits};
+    ghost use Rattle.eco_base.specs.Order.{IsInOrder};
+    ghost use Rattle.eco_base.specs.Parts.{parts_of};
     ghost use Rattle.eco_base.specs.Ties.{tie_name};
 
     /// The base of these parts, which belong together.
-    pub(crate) fn of(
-        texts: Texts,
-        netlist: Netlist,
-        stock: Vec<Spare>,
-        functions: Vec<MasterFn>,
-        skipped: u32,
-        census: Census,
-        depth: u32,
-        sources: Sources,
-    ) -> Base
-        requires { IsOpen (record { texts = texts; listing = netlist; stock = stock.items; functions = functions.items; skipped = skipped; census = census; depth = depth; digest = the_digest_of sources.lef.items texts.text sources.functions.items sources.desk.items }) }
-        ensures { result ≡ record { texts = texts; listing = netlist; stock = stock.items; functions = functions.items; skipped = skipped; census = census; depth = depth; digest = the_digest_of sources.lef.items texts.text sources.functions.items sources.desk.items } }
+    pub(crate) fn of(texts: Texts, stocked: Stocked, sources: Sources) -> Base
+        requires { IsOpen (parts_of texts stocked sources) }
+        ensures { result ≡ parts_of texts stocked sources }
     {
         Base {
             texts,
-            netlist,
-            stock,
-            functions,
-            skipped,
-            census,
-            depth,
+            stocked,
             sources,
         }
     }
@@ -88,22 +72,25 @@ impl Base {
     }
 
     /// The netlist without the stock, whose names stay reserved. It is loop-free, and has at most 2,000,000 nets, 1,000,000
-    /// components and 4,000,000 pins of components on a net. No component's name has a blank.
+    /// components and 4,000,000 pins of components on a net. No component's name has a blank. Components are numbered in the
+    /// order of the design's text, and the pins of each in the order of its master. Places are doubled centres in their range.
     pub fn netlist(&self) -> &Netlist
         ensures value { result.now ≡ self.now.listing }
         ensures open { IsOpen self.now }
         ensures limits { KeepsLimits self.now.listing }
+        ensures order { IsInOrder self.now.texts self.now.listing }
     {
-        let _counts = self.netlist.counts();
-        &self.netlist
+        self.stocked.netlist.facts();
+        &self.stocked.netlist
     }
 
     /// The spares of the stock, in the order of the design's text.
     pub fn stock(&self) -> &[Spare]
         ensures value { result.now ≡ self.now.stock }
+        ensures centres { All (λ s. IsCentre s.centre) self.now.stock }
         ensures open { IsOpen self.now }
     {
-        &self.stock
+        &self.stocked.spares
     }
 
     /// What a spare of the stock computes, by its number in the stock.
@@ -112,7 +99,7 @@ impl Base {
         ensures value { slice_get self.now.functions spare ≡ Some result.now }
         ensures open { IsOpen self.now }
     {
-        &self.functions[spare as usize]
+        &self.stocked.functions[spare as usize]
     }
 
     /// The text and its design, without the rest.
@@ -124,28 +111,28 @@ impl Base {
         self.texts.into_text_and_design()
     }
 
-    /// How many components are spare-named and no stock.
+    /// How many spare-named components aren't in the stock.
     pub fn skipped(&self) -> u32
         ensures value { result ≡ self.now.skipped }
         ensures open { IsOpen self.now }
     {
-        self.skipped
+        self.stocked.skipped
     }
 
-    /// How much the base has.
+    /// The counts of what the base has.
     pub fn census(&self) -> Census
         ensures census { IsCensusOf self.now.texts result }
         ensures open { IsOpen self.now }
     {
-        self.census
+        self.stocked.census
     }
 
-    /// The greatest depth of a gate that is no stock, and 0 where there is none.
+    /// The greatest depth of a gate that isn't in the stock, and 0 where there is none.
     pub fn depth(&self) -> u32
         ensures depth { IsDepth (bare (frozen self.now.texts)) result }
         ensures open { IsOpen self.now }
     {
-        self.depth
+        self.stocked.depth
     }
 
     /// The net that is tied to a value.
@@ -157,17 +144,14 @@ impl Base {
         if value { desk.high() } else { desk.low() }
     }
 
-    /// SHA-256 over the four texts, each behind its length. It is computed at each call, in time of the texts' length, so a
-    /// caller that needs it often keeps it.
+    /// SHA-256 over the four texts, each after its length. It is computed at each call, in time of the length of the DEF, so
+    /// a caller that needs it often keeps it.
     pub fn digest(&self) -> [u8; 32]
         ensures { result ≡ self.now.digest }
     {
         let sources = &self.sources;
-        digest_of(
-            &sources.lef,
-            self.texts.text(),
-            &sources.functions,
-            &sources.desk,
-        )
+        sources
+            .lef
+            .digest(self.texts.text(), &sources.functions, &sources.desk)
     }
 }

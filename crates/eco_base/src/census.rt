@@ -1,4 +1,4 @@
-//! How much a base has.
+//! Counts of what a base has.
 
 ghost use Rattle.std.specs.Prelude.{◌≡◌, ◌<◌, Some, length, slice_get, count_by};
 ghost use Rattle.std.specs.Option.{option_map};
@@ -7,21 +7,21 @@ ghost use Rattle.eco_base.specs.Census.{is_gate_row, IsCensusOfRows};
 use crate::Stock;
 use eco_net::{CompId, Kind, NetlistMaker};
 
-/// How many there are of each in a base.
+/// Counts of what a base has.
 #[derive(Clone, Copy, Debug, Drop, PartialEq, Eq)]
 pub struct Census {
-    /// The components of the design, stock too.
+    /// The components of the design, with the stock.
     pub components: u64,
-    /// Those that are gates, stock too.
+    /// Those of them that are gates, with the stock.
     pub gates: u64,
-    /// Those that are no gates.
+    /// Those of them that aren't gates.
     pub boxes: u64,
     pub nets: u64,
-    /// The pins that are on a net: those of components, stock too, and the chip's own. Supply pins are in no netlist.
+    /// The pins that are on a net: those of components, with the stock, and the chip's own. Supply pins aren't counted.
     pub pins: u64,
     /// The spares of the stock.
     pub stock: u64,
-    /// The components that are spare-named and no stock.
+    /// The spare-named components that aren't in the stock.
     pub skipped: u64,
 }
 
@@ -47,7 +47,7 @@ fn count_gates(net: &NetlistMaker) -> u32
     gates
 }
 
-/// How much there is in the netlist of all components, whose stock this is.
+/// The counts of the netlist of all components, whose stock this is.
 pub fn census_of(net: &NetlistMaker, stock: &Stock) -> Census
     ensures { IsCensusOfRows net.now stock.now result }
 {

@@ -1,4 +1,4 @@
-//! Why texts give no base.
+//! Why `open_base` refuses its texts.
 
 ghost use Rattle.std.specs.Prelude.{◌≡◌};
 ghost use Rattle.eco_base.specs.declared.fault.BaseFault.TheVariants.{Memory as OutOfMemory};
@@ -11,16 +11,17 @@ use eco_net::Names;
 use std::alloc::AllocError;
 use thiserror::Error;
 
-/// Why `open_base` refuses its texts: the first reason there is, in the order of these variants, or want of memory.
+/// Why `open_base` refuses its texts: the first of these that applies, in their order. `Memory` may be returned for any
+/// texts.
 #[derive(Debug, Drop, Error)]
 pub enum BaseFault {
-    /// The LEF has no library, and this is its first fault.
+    /// The LEF can't be read, and this is its first fault.
     #[error("Lef {0}")]
     Lef(LefFault),
-    /// The DEF has no design, and this is its first fault.
+    /// The DEF can't be read, and this is its first fault.
     #[error("Def {0}")]
     Def(DefFault),
-    /// The functions file gives no functions, and this is its first fault.
+    /// The functions file can't be read, and this is its first fault.
     #[error("Func {0}")]
     Func(FuncFault),
     /// The first field of the desk file that is at fault, or `file` where it is no TOML document.
@@ -71,17 +72,17 @@ pub enum BaseFault {
     TieNotConstant {
         net: Name,
     },
-    /// More spares are stock than may be.
+    /// The stock has more than 32,768 spares.
     #[error("TooMuchStock count={count}")]
     TooMuchStock {
         count: usize,
     },
-    /// A signal runs in a circle through gates that aren't stock.
+    /// A signal runs in a circle through gates that aren't in the stock.
     #[error("Loop nets={nets}")]
     Loop {
         nets: Names,
     },
-    /// Want of memory.
+    /// Memory ran out.
     #[error("memory")]
     Memory,
 }

@@ -2,7 +2,7 @@
 
 ghost use Rattle.std.specs.Prelude.{◌≡◌, ℕ, Bool};
 
-/// What knows which spares are free.
+/// A record of which spares of the stock are free.
 pub trait FreeStock {
     /// Whether the spare of a number is free.
     ghost free: { Self → ℕ → Bool };

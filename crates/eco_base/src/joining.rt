@@ -1,7 +1,8 @@
-//! The netlist of a base's texts, all its components in it, or the first fault of masters, joints and supplies.
+//! The netlist of all components of a base's texts, or the first fault of masters, joints and supplies.
 
 ghost use Rattle.std.specs.Prelude.{◌≡◌, Some, None, IfOk, IfErr, OnOk};
-ghost use Rattle.eco_base.specs.Joined.{masters_of, unknown_pin, two_nets, pattern, two_valued, IsSupplyFault, MastersFit, BlamesMasters, BlamesPin, BlamesNets, BlamesPattern, BlamesSupply, BlamesJoints, AreClean, ListsWhereClean, IsJoined};
+ghost use Rattle.eco_base.specs.Joined.{masters_of, unknown_pin, two_nets, pattern, two_valued, IsSupplyFault, MastersFit, BlamesMasters, BlamesPin, BlamesNets, BlamesPattern, BlamesSupply, AreClean, ListsWhereClean, IsJoined};
+ghost use Rattle.eco_base.specs.Opened.{IsFirstOf};
 
 use crate::fault::BaseFault;
 use crate::texts::Texts;
@@ -105,7 +106,7 @@ fn check_joints(alloc: Global, texts: &Texts, table: &MasterTable<'_>) -> Result
     requires table { table.now ≡ masters_of texts.now }
     requires fit { MastersFit texts.now }
     ensures none { OnOk result (AreClean texts.now) }
-    ensures fault { IfErr result (BlamesJoints texts.now) }
+    ensures fault { IfErr result (IsFirstOf texts.now) }
 {
     check_pins(alloc, texts, table)?;
     check_nets(alloc, texts, table)?;
@@ -118,7 +119,7 @@ fn first_fault(alloc: Global, texts: &Texts, table: &MasterTable<'_>) -> BaseFau
     requires table { table.now ≡ masters_of texts.now }
     requires fit { MastersFit texts.now }
     requires unclean { AreClean texts.now → ⊥ }
-    ensures { BlamesJoints texts.now result }
+    ensures { IsFirstOf texts.now result }
 {
     match check_joints(alloc, texts, table) {
         Err(fault) => fault,
@@ -151,10 +152,11 @@ fn list_clean(
 
 /// The netlist of all components, its tie nets aside, or the first fault of masters, joints and supplies.
 ///
-/// Where all is well one listing and one look at the top pins' joints show it; only else is the first fault sought.
+/// One listing and one pass over the top pins' joints show whether there is a fault, and only then is the first one looked
+/// for.
 pub fn list_joined(alloc: Global, texts: &Texts) -> Result<NetlistMaker, BaseFault>
     ensures joined { IfOk result (IsJoined texts.now) }
-    ensures fault { IfErr result (BlamesJoints texts.now) }
+    ensures fault { IfErr result (IsFirstOf texts.now) }
 {
     check_fit(alloc, texts)?;
     let table = MasterTable::of(alloc, texts.library(), texts.functions())?;

@@ -5,6 +5,7 @@
 mod base;
 mod census;
 mod constant;
+mod crossing;
 mod digest;
 mod fault;
 mod finding;

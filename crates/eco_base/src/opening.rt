@@ -4,6 +4,7 @@ ghost use Rattle.std.specs.Prelude.{◌≤◌, length};
 ghost use Rattle.eco_base.specs.Opened.{Opens};
 
 use crate::base::Base;
+use crate::digest::HashedLef;
 use crate::fault::BaseFault;
 use crate::joining::list_joined;
 use crate::reading::read_texts;
@@ -15,7 +16,8 @@ use std::alloc::Global;
 /// Opens the base of a LEF of at most 67,108,864 bytes, a DEF of at most 134,217,728 bytes, a functions file and a desk
 /// file.
 ///
-/// Faults come in the order of `BaseFault`, of each kind the first.
+/// Faults come in the order of `BaseFault`, and of each kind the first. Of the LEF no copy is kept: it is hashed here for
+/// `Base::digest`.
 pub fn open_base(
     alloc: Global,
     lef: Vec<u8>,
@@ -31,18 +33,9 @@ pub fn open_base(
     let maker = list_joined(alloc, &texts)?;
     let stocked = take_stock(alloc, &texts, maker)?;
     let sources = Sources {
-        lef,
+        lef: HashedLef::after(&lef),
         functions,
         desk,
     };
-    Ok(Base::of(
-        texts,
-        stocked.netlist,
-        stocked.spares,
-        stocked.functions,
-        stocked.skipped,
-        stocked.census,
-        stocked.depth,
-        sources,
-    ))
+    Ok(Base::of(texts, stocked, sources))
 }

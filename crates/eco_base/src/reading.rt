@@ -3,12 +3,14 @@
 ghost use Rattle.std.specs.Prelude.{◌≡◌, ◌≤◌, true, length, Ok, IfOk, IfErr};
 ghost use Rattle.std.specs.List.{All};
 ghost use Rattle.eco_def.specs.Sections.{IsReadingOf};
-ghost use Rattle.eco_func.specs.FunctionsFile.{Reads as ReadsFunctions};
+ghost use Rattle.eco_func.specs.FunctionsFile.{ReadsFunctions};
 ghost use Rattle.eco_func.specs.Masters.{is_master};
 ghost use Rattle.eco_lef.specs.Names.{HaveOwnNames};
-ghost use Rattle.eco_desk_file.specs.DeskText.{Reads as ReadsDesk};
+ghost use Rattle.eco_lef.specs.Sizes.{KeepSizes};
+ghost use Rattle.eco_desk_file.specs.DeskText.{ReadsDesk};
 ghost use Rattle.eco_base.specs.Texts.{IsLibrary, IsReadFrom};
-ghost use Rattle.eco_base.specs.TextFaults.{BlamesLef, BlamesDef, BlamesFunctions, BlamesDesk, BlamesTexts};
+ghost use Rattle.eco_base.specs.TextFaults.{BlamesLef, BlamesDef, BlamesFunctions, BlamesDesk};
+ghost use Rattle.eco_base.specs.Opened.{IsFirstFault};
 
 use crate::fault::BaseFault;
 use crate::texts::Texts;
@@ -24,6 +26,7 @@ fn library_of(alloc: Global, lef: &[u8]) -> Result<Library, BaseFault>
     requires { length lef.now ≤ MAX_LEF_BYTES }
     ensures library { IfOk result (IsLibrary lef.now) }
     ensures names { IfOk result HaveOwnNames }
+    ensures sizes { IfOk result KeepSizes }
     ensures fault { IfErr result (BlamesLef lef.now) }
 {
     match read_lef(alloc, lef) {
@@ -83,7 +86,7 @@ pub fn read_texts(
     requires lef { length lef.now ≤ MAX_LEF_BYTES }
     requires def { length def.items ≤ MAX_DEF_BYTES }
     ensures texts { IfOk result (IsReadFrom lef.now def.items functions.now desk.now) }
-    ensures fault { IfErr result (BlamesTexts lef.now def.items functions.now desk.now) }
+    ensures fault { IfErr result (IsFirstFault lef.now def.items functions.now desk.now) }
 {
     let library = library_of(alloc, lef)?;
     let design = design_of(alloc, &def)?;

@@ -1,9 +1,11 @@
-//! The texts that a base keeps beside its DEF.
+//! What a base keeps of its texts for their digest.
 
-/// The other three texts of a base, which it keeps for its digest alone.
+use crate::digest::HashedLef;
+
+/// What a base keeps, beside its DEF, for the digest of its texts.
 #[derive(Drop)]
 pub struct Sources {
-    pub lef: Vec<u8>,
+    pub lef: HashedLef,
     pub functions: Vec<u8>,
     pub desk: Vec<u8>,
 }

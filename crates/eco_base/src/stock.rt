@@ -2,11 +2,13 @@
 
 use eco_common::{Name, Point};
 
-/// A spare cell of the stock: its name, its place in database units, and its number in the netlist.
+/// A spare cell of the stock: its name, its placement point in database units, its doubled centre, and its number among all
+/// components in the order of the design's text, from 0.
 #[derive(Drop)]
 pub struct Spare {
     pub name: Name,
     pub point: Point,
+    pub centre: Point,
     pub comp: u32,
 }
 
@@ -14,8 +16,8 @@ pub struct Spare {
 #[derive(Drop)]
 pub struct Stock {
     pub spares: Vec<Spare>,
-    /// Whether a component is stock, for each.
+    /// For each component, whether it is stock.
     pub marks: Vec<bool>,
-    /// How many components are spare-named and no stock.
+    /// How many spare-named components aren't stock.
     pub skipped: u32,
 }

@@ -8,13 +8,13 @@ pub fn tie_nets_are_constant()
     ensures without { TieNetsStayConstant }
 {}
 
-/// A law: stock is a gate whose outputs are on no net.
+/// A law: each spare of the stock is a gate whose outputs are unconnected.
 pub fn stock_drives_nothing()
     ensures { StockIsSpare }
 {}
 
 /// A law: a component of a netlist passes the test for stock exactly where it is spare-named, placed and a gate that has every
-/// input on one of the two tie nets and every output on no net.
+/// input on one of the two tie nets and every output unconnected.
 pub fn stock_in_words()
     ensures { StockInWords }
 {}

@@ -2,10 +2,11 @@
 
 ghost use Rattle.std.specs.Prelude.{◌≡◌, map, IfOk, OnOk};
 ghost use Rattle.std.specs.FinSet.{from_list, empty};
-ghost use Rattle.eco_net.specs.Netlist.{IsNet, IsWhole};
+ghost use Rattle.eco_net.specs.Netlist.{IsNet, IsWellFormed};
 ghost use Rattle.eco_net.specs.Listing.{netlist};
 ghost use Rattle.eco_net.specs.Changes.{with_tie_net};
 ghost use Rattle.eco_base.specs.Found.{is_stock_row, stock_rows, place_in_row, place_of_spare};
+ghost use Rattle.eco_base.specs.Order.{without_stock_rows, HasSameOrder};
 ghost use Rattle.eco_base.specs.Without.{spare_names, with_ties, without_spares};
 
 use crate::stock::{Spare, Stock};
@@ -17,7 +18,8 @@ use std::alloc::Global;
 /// Reserves the names of the spares.
 fn reserve_all(alloc: Global, maker: &mut NetlistMaker, spares: &[Spare]) -> Result<(), Memory>
     requires { (netlist maker.old).reserved ≡ empty }
-    ensures { OnOk result (netlist maker.new ≡ record (netlist maker.old) { reserved = from_list (spare_names spares.now) }) }
+    ensures named { OnOk result (netlist maker.new ≡ record (netlist maker.old) { reserved = from_list (spare_names spares.now) }) }
+    ensures order { OnOk result (HasSameOrder maker.old maker.new) }
 {
     for spare in spares {
         maker.reserve_name(alloc, spare.name.bytes())?;
@@ -28,7 +30,8 @@ fn reserve_all(alloc: Global, maker: &mut NetlistMaker, spares: &[Spare]) -> Res
 /// Marks a tie net.
 fn mark(maker: &mut NetlistMaker, name: &[u8])
     requires { IsNet (netlist maker.old) name.now }
-    ensures { netlist maker.new ≡ with_tie_net (netlist maker.old) name.now }
+    ensures named { netlist maker.new ≡ with_tie_net (netlist maker.old) name.now }
+    ensures order { HasSameOrder maker.old maker.new }
 {
     if let Some(net) = maker.find_net(name) {
         maker.mark_tie(net);
@@ -40,7 +43,8 @@ fn mark_ties(maker: &mut NetlistMaker, desk: &DeskFile)
     requires none { (netlist maker.old).ties ≡ empty }
     requires high { IsNet (netlist maker.old) desk.now.high }
     requires low { IsNet (netlist maker.old) desk.now.low }
-    ensures { netlist maker.new ≡ with_ties (netlist maker.old) desk.now }
+    ensures named { netlist maker.new ≡ with_ties (netlist maker.old) desk.now }
+    ensures order { HasSameOrder maker.old maker.new }
 {
     mark(maker, desk.high().bytes());
     mark(maker, desk.low().bytes());
@@ -61,7 +65,8 @@ pub fn without_stock(
     requires marks { stock.now.marks.items ≡ map (is_stock_row desk.now full.nets) full.comps }
     requires rows { map place_of_spare stock.now.spares.items ≡ map place_in_row (stock_rows desk.now full) }
     ensures base { IfOk result (λ n. netlist n ≡ without_spares (netlist full) desk.now (spare_names stock.now.spares.items)) }
-    ensures whole { IfOk result (λ n. IsWhole (netlist n)) }
+    ensures whole { IfOk result (λ n. IsWellFormed (netlist n)) }
+    ensures order { IfOk result (HasSameOrder (without_stock_rows desk.now full)) }
 {
     let mut maker = full.without(alloc, &stock.marks)?;
     reserve_all(alloc, &mut maker, &stock.spares)?;

@@ -1,19 +1,20 @@
-//! A base's netlist without its stock, and the stock.
+//! A base's stock, and its netlist without the stock.
 
 use crate::Spare;
 use crate::census::Census;
 use eco_func::MasterFn;
 use eco_net::Netlist;
 
-/// The netlist without the stock, each spare of the stock, what it computes, how many spare-named components are no stock,
-/// how much there is in all, and how deep the gates stand that are no stock.
+/// A base's stock, and its netlist without the stock.
 #[derive(Drop)]
 pub struct Stocked {
     pub netlist: Netlist,
     pub spares: Vec<Spare>,
+    /// What each spare computes.
     pub functions: Vec<MasterFn>,
+    /// How many spare-named components aren't stock.
     pub skipped: u32,
     pub census: Census,
-    /// How deep the gates of the netlist stand.
+    /// The greatest depth of a gate of the netlist, and 0 where there is none.
     pub depth: u32,
 }

@@ -1,16 +1,15 @@
 //! The tie nets and the stock of a base, and its netlist without the stock.
 
-ghost use Rattle.std.specs.Prelude.{◌≡◌, ◌≤◌, true, false, Some, map, length, slice_get, IfOk, IfErr, OnOk};
+ghost use Rattle.std.specs.Prelude.{◌≡◌, ◌≤◌, true, false, Some, IsSome, map, length, IfOk, IfErr, OnOk};
 ghost use Rattle.std.specs.List.{All};
-ghost use Rattle.std.specs.Option.{option_map};
 ghost use Rattle.eco_net.specs.Listing.{netlist};
 ghost use Rattle.eco_net.specs.Depth.{IsDepth};
 ghost use Rattle.eco_net.specs.Walks.{IsLoopFree, IsClosedWalk};
-ghost use Rattle.eco_net.specs.declared.kind.Kind.TheVariants.{Gate};
 ghost use Rattle.eco_base.specs.Ties.{tie_name, IsTieNet};
 ghost use Rattle.eco_base.specs.Joined.{IsJoined};
-ghost use Rattle.eco_base.specs.Opened.{BlamesStock};
-ghost use Rattle.eco_base.specs.Stocked.{BlamesTie, BlamesTies, BlamesCount, BlamesLoop, IsGateRow, IsStocked};
+ghost use Rattle.eco_base.specs.Stocks.{entry_at};
+ghost use Rattle.eco_base.specs.Opened.{IsFirstOf};
+ghost use Rattle.eco_base.specs.Stocked.{BlamesTie, BlamesTies, BlamesCount, BlamesLoop, IsStocked};
 
 use crate::census::census_of;
 use crate::fault::BaseFault;
@@ -20,7 +19,8 @@ use crate::{Spare, Stock, find_stock, is_tied, without_stock};
 use eco_common::{MAX_STOCK, Memory, Name};
 use eco_desk_file::DeskFile;
 use eco_func::MasterFn;
-use eco_net::{CompId, Kind, LoopFault, Netlist, NetlistMaker};
+use eco_net::{LoopFault, Netlist, NetlistMaker};
+use eco_text::bytes_at;
 use std::alloc::Global;
 
 /// The fault of a tie net.
@@ -33,7 +33,7 @@ fn tie_fault(alloc: Global, net: &Name) -> BaseFault
     }
 }
 
-/// Refuses a tie net that hasn't its value, that of `tie_high` first.
+/// Refuses a tie net that doesn't have its value, the one of `tie_high` first.
 fn check_ties(alloc: Global, net: &NetlistMaker, desk: &DeskFile) -> Result<(), BaseFault>
     ensures high { OnOk result (IsTieNet desk.now.prefixes (netlist net.now) desk.now.high true) }
     ensures low { OnOk result (IsTieNet desk.now.prefixes (netlist net.now) desk.now.low false) }
@@ -50,7 +50,7 @@ fn check_ties(alloc: Global, net: &NetlistMaker, desk: &DeskFile) -> Result<(), 
     Ok(())
 }
 
-/// Refuses more spares than may be.
+/// Refuses a stock of more than 32,768 spares.
 fn check_count(spares: &[Spare]) -> Result<(), BaseFault>
     ensures few { OnOk result (length spares.now ≤ MAX_STOCK) }
     ensures fault { IfErr result (BlamesCount (length spares.now)) }
@@ -62,7 +62,7 @@ fn check_count(spares: &[Spare]) -> Result<(), BaseFault>
     Err(BaseFault::TooMuchStock { count })
 }
 
-/// How deep the gates of a netlist stand. Refuses a netlist in which a signal runs in a circle.
+/// The greatest depth of a gate of a netlist. Refuses a netlist in which a signal runs in a circle.
 fn depth_of(alloc: Global, net: &Netlist) -> Result<u32, BaseFault>
     ensures free { OnOk result (IsLoopFree (netlist net.now)) }
     ensures depth { IfOk result (IsDepth (netlist net.now)) }
@@ -75,29 +75,27 @@ fn depth_of(alloc: Global, net: &Netlist) -> Result<u32, BaseFault>
     }
 }
 
-/// What a gate computes.
-fn function_of(net: &NetlistMaker, comp: CompId) -> Result<MasterFn, Memory>
-    requires { IsGateRow (slice_get net.now.comps comp.0) }
-    ensures { IfOk result (λ f. option_map (λ r. r.kind) (slice_get net.now.comps comp.0) ≡ Some (Gate f)) }
+/// What a component computes, by its number in the design: its master's entry in the functions file, which has one.
+fn function_of(texts: &Texts, comp: u32) -> Result<MasterFn, Memory>
+    requires { IsSome (entry_at texts.now comp) }
+    ensures { IfOk result (λ f. entry_at texts.now comp ≡ Some f) }
 {
-    match net.kind(comp) {
-        Kind::Gate(master) => Ok(master.copy()?),
-        Kind::Boxed(_) => unreachable!(),
+    let comps = texts.design().comps.as_slice();
+    let model = bytes_at(texts.text(), comps[comp as usize].model);
+    match texts.functions().find(model) {
+        Some(master) => Ok(master.copy()?),
+        None => unreachable!(),
     }
 }
 
 /// What each spare computes.
-fn functions_of(
-    alloc: Global,
-    net: &NetlistMaker,
-    spares: &[Spare],
-) -> Result<Vec<MasterFn>, Memory>
-    requires { All (λ s. IsGateRow (slice_get net.now.comps s.comp)) spares.now }
-    ensures { IfOk result (λ fs. map (λ f. Some (Gate f)) fs.items ≡ map (λ s. option_map (λ r. r.kind) (slice_get net.now.comps s.comp)) spares.now) }
+fn functions_of(alloc: Global, texts: &Texts, spares: &[Spare]) -> Result<Vec<MasterFn>, Memory>
+    requires { All (λ s. IsSome (entry_at texts.now s.comp)) spares.now }
+    ensures { IfOk result (λ fs. map (λ f. Some f) fs.items ≡ map (λ s. entry_at texts.now s.comp) spares.now) }
 {
     let mut functions = Vec::with_capacity(alloc, spares.len())?;
     for spare in spares {
-        functions.push(function_of(net, CompId(spare.comp))?)?;
+        functions.push(function_of(texts, spare.comp)?)?;
     }
     Ok(functions)
 }
@@ -108,14 +106,15 @@ fn functions_of(
 pub fn take_stock(alloc: Global, texts: &Texts, full: NetlistMaker) -> Result<Stocked, BaseFault>
     requires { IsJoined texts.now full }
     ensures stocked { IfOk result (IsStocked texts.now) }
-    ensures fault { IfErr result (BlamesStock texts.now) }
+    ensures fault { IfErr result (IsFirstOf texts.now) }
 {
     let desk = texts.desk();
-    let _counts = full.counts();
+    full.facts();
     check_ties(alloc, &full, desk)?;
-    let stock = find_stock(alloc, &full, desk)?;
+    let comps = texts.design().comps.as_slice();
+    let stock = find_stock(alloc, &full, desk, comps)?;
     check_count(&stock.spares)?;
-    let functions = functions_of(alloc, &full, &stock.spares)?;
+    let functions = functions_of(alloc, texts, &stock.spares)?;
     let census = census_of(&full, &stock);
     let netlist = without_stock(alloc, full, desk, &stock)?;
     let depth = depth_of(alloc, &netlist)?;

@@ -3,7 +3,7 @@
 ghost use Rattle.std.specs.Prelude.{◌≡◌, ◌<◌, ◌↔◌, IsTrue, length, slice_get, Some, None, IfOk};
 ghost use Rattle.std.specs.Option.{option_map};
 ghost use Rattle.eco_net.specs.declared.ids.PinRef.{PinRef};
-ghost use Rattle.eco_net.specs.Listing.{netlist, net_name, pin_named, IsKnownPin};
+ghost use Rattle.eco_net.specs.Listing.{netlist, net_name, numbered_pin, IsKnownPin};
 ghost use Rattle.eco_base.specs.Ties.{tie_name, IsTieOutput, IsTieNet};
 
 use crate::constant::is_constant;
@@ -22,7 +22,7 @@ fn tie_name(desk: &DeskFile, value: bool) -> &Name
 /// Whether a pin is an output of this value of a gate without inputs that isn't spare-named.
 fn is_tie_output(net: &NetlistMaker, desk: &DeskFile, pin: PinRef, value: bool) -> bool
     requires { IsKnownPin net.now pin }
-    ensures { IsTrue result ↔ IsTieOutput desk.now.prefixes (netlist net.now) (pin_named net.now pin) value }
+    ensures { IsTrue result ↔ IsTieOutput desk.now.prefixes (netlist net.now) (numbered_pin net.now pin) value }
 {
     match pin {
         PinRef::Top(_) => false,
@@ -33,16 +33,16 @@ fn is_tie_output(net: &NetlistMaker, desk: &DeskFile, pin: PinRef, value: bool) 
 /// The same of a pin of a component.
 fn is_tie_pin(net: &NetlistMaker, desk: &DeskFile, comp: CompId, pin: u32, value: bool) -> bool
     requires { IsKnownPin net.now (PinRef.Pin comp pin) }
-    ensures { IsTrue result ↔ IsTieOutput desk.now.prefixes (netlist net.now) (pin_named net.now (PinRef.Pin comp pin)) value }
+    ensures { IsTrue result ↔ IsTieOutput desk.now.prefixes (netlist net.now) (numbered_pin net.now (PinRef.Pin comp pin)) value }
 {
-    let _counts = net.counts();
+    net.facts();
     if desk.is_spare(net.comp_name(comp)) {
         return false;
     }
     is_constant(net.kind(comp), pin, value)
 }
 
-/// Whether a net that is no supply is driven by such an output.
+/// Whether a net that isn't a supply is driven by such an output.
 fn is_driven_tie(
     alloc: Global,
     net: &NetlistMaker,
@@ -54,7 +54,7 @@ fn is_driven_tie(
     requires no_supply { option_map (λ r. r.supply) (slice_get net.now.nets number.0) ≡ Some None }
     ensures { IfOk result (λ tied. IsTrue tied ↔ IsTieNet desk.now.prefixes (netlist net.now) (net_name net.now.nets number.0) value) }
 {
-    let _counts = net.counts();
+    net.facts();
     match net.driver(alloc, number)? {
         Some(pin) => Ok(is_tie_output(net, desk, pin, value)),
         None => Ok(false),
@@ -72,7 +72,7 @@ fn is_tie_net(
     requires { number.0 < length net.now.nets }
     ensures { IfOk result (λ tied. IsTrue tied ↔ IsTieNet desk.now.prefixes (netlist net.now) (net_name net.now.nets number.0) value) }
 {
-    let _counts = net.counts();
+    net.facts();
     match net.supply(number) {
         Some(supply) => Ok(supply == value),
         None => is_driven_tie(alloc, net, desk, number, value),
@@ -89,7 +89,7 @@ pub fn is_tied(
 ) -> Result<bool, Memory>
     ensures { IfOk result (λ tied. IsTrue tied ↔ IsTieNet desk.now.prefixes (netlist net.now) (tie_name desk.now value) value) }
 {
-    let _counts = net.counts();
+    net.facts();
     match net.find_net(tie_name(desk, value).bytes()) {
         Some(number) => is_tie_net(alloc, net, desk, number, value),
         None => Ok(false),

@@ -3,14 +3,16 @@ use Rattle.std.proofs.Common.{◌<◌, ◌≡◌, ◌⊎◌, ℕ, Bool, true, fa
 use Rattle.std.specs.Io.KnownBytes.{append_known}
 use Rattle.eco_common.specs.Causes.{Rose}
 use Rattle.eco_cli.specs.CommandLine.{Listed, is_bad, is_complete, HasReading, IsFirstBad}
-use Rattle.eco_cli.specs.Commands.{options_of, Asks, IsBadWord}
+use Rattle.eco_cli.specs.Commands.{options_of, job_of, Asks, IsBadWord}
 use Rattle.eco_cli.specs.Opens.{Told}
 use Rattle.eco_cli.specs.Ending.{Comes, IsRefusal}
+use Rattle.eco_cli.specs.Returns.{ReturnsSome}
 use Rattle.eco_cli.specs.Telling.{status_of, line_of, Tells}
 use Rattle.eco_cli.specs.declared.command.Command.{Command}
 use Rattle.eco_cli.specs.declared.done.Done.{Done}
 use Rattle.eco_cli.specs.declared.failure.Failure.{Failure}
 use Rattle.eco_cli.specs.declared.failure.Failure.TheVariants as failed
+use Rattle.eco_cli.proofs.Returning.{returns_some}
 
 one_bit : (b : Bool) → b ≡ false → b ≡ true → ⊥
 one_bit true is other = cc
@@ -128,3 +130,30 @@ pub bad_word_answers : {T I O : Type 0} (h : Told T I O) (left : I → Option (L
     Comes h left taken old new words r → Tells before after f f' (line_of r) (status_of r) answer → IsBadWord words n → (answer ≡ 2) ⊎ (answer ≡ 4)
 bad_word_answers h left taken old new words before after f f' r answer n comes (inl t) bad = inl (t.0 ∙ bad_ends h left taken old new words r n comes bad)
 bad_word_answers h left taken old new words before after f f' r answer n comes (inr t) bad = inr t.0
+
+-- ---- what is given back
+
+-- a line asks for one job alone
+one_asked : {T I O : Type 0} (h : Told T I O) (left : I → Option (List ℕ)) (old new : T) (words : List (List ℕ)) (c d : Command) (these those : List (List ℕ)) → Asks words c these → Asks words d those →
+    ReturnsSome h left old new (job_of d those).inputs → ReturnsSome h left old new (job_of c these).inputs
+one_asked h left old new [] c d these those one other back = absurd one
+one_asked h left old new (w ∷ ws) c d these those one other back =
+    let same : d ≡ c = some_same d c (sym other.0 ∙ one.0) in
+    let after : those ≡ these = other.1 ∙ sym one.1 in
+    subst (λ k. ReturnsSome h left old new (job_of k these).inputs) same (subst (λ ws. ReturnsSome h left old new (job_of d ws).inputs) after back)
+
+pub returned_answers : {T I O : Type 0} (h : Told T I O) (left : I → Option (List ℕ)) (taken : O → Option (List ℕ)) (old new : T) (words : List (List ℕ)) (r : Result Done Failure) (c : Command) (after : List (List ℕ)) →
+    Comes h left taken old new words r → Asks words c after → ReturnsSome h left old new (job_of c after).inputs
+returned_answers h left taken old new words (Ok d) c after comes asks =
+    one_asked h left old new words c comes.0 after comes.1 asks comes.2 (returns_some h left old new (job_of comes.0 comes.1).inputs (Ok d) comes.4)
+returned_answers h left taken old new words (Err (failed.TooLong option)) c after comes asks =
+    one_asked h left old new words c comes.0 after comes.1 asks comes.2 (returns_some {V = Done} h left old new (job_of comes.0 comes.1).inputs (Err (failed.TooLong option)) comes.4)
+returned_answers h left taken old new words (Err (failed.Refused refusal)) c after comes asks =
+    one_asked h left old new words c comes.0 after comes.1 asks comes.2 (returns_some {V = Done} h left old new (job_of comes.0 comes.1).inputs (Err (failed.Refused refusal)) comes.4)
+returned_answers h left taken old new words (Err failed.Read) c after comes asks =
+    one_asked h left old new words c comes.0 after comes.1 asks comes.2 (returns_some {V = Done} h left old new (job_of comes.0 comes.1).inputs (Err failed.Read) comes.4)
+returned_answers h left taken old new words (Err failed.Write) c after comes asks =
+    one_asked h left old new words c comes.0 after comes.1 asks comes.2 (returns_some {V = Done} h left old new (job_of comes.0 comes.1).inputs (Err failed.Write) comes.4)
+returned_answers h left taken old new words (Err failed.Memory) c after comes asks =
+    one_asked h left old new words c comes.0 after comes.1 asks comes.2 (returns_some {V = Done} h left old new (job_of comes.0 comes.1).inputs (Err failed.Memory) comes.4)
+returned_answers h left taken old new words (Err (failed.Words n)) c after comes asks = absurd (none_bad words c after n asks comes.0)

@@ -8,7 +8,7 @@ use Rattle.eco_cli.specs.Steps.{ReadingAll, AreWithin, Plans, Writing, bytes_of,
 use Rattle.eco_cli.specs.declared.plan.Plan.{Plan}
 use Rattle.eco_cli.specs.declared.failure.Failure.{Failure}
 use Rattle.eco_cli.specs.declared.failure.Failure.TheVariants as failed
-use Rattle.eco_cli.proofs.Reading.{asks_then, asks_front, rose_since}
+use Rattle.eco_cli.proofs.Reading.{adds_then, asks_front, rose_since}
 
 -- ---- what was asked
 
@@ -58,7 +58,7 @@ ends_planning h left taken old new j texts v failed.Memory r back p =
     ((length (source_opens j.inputs) + 0, asks_sources (source_opens j.inputs) (sink_opens j.output) (h.asked old) (h.asked new) r.1), back, r.2)
 
 asks_all : {T I O : Type 0} (h : Told T I O) (old mid new : T) (j : Job) → AsksAll (source_opens j.inputs) (h.asked old) (h.asked mid) → AsksAll (sink_opens j.output) (h.asked mid) (h.asked new) → AsksAll (opens_of j) (h.asked old) (h.asked new)
-asks_all h old mid new j one two = asks_then (source_opens j.inputs) (sink_opens j.output) (h.asked old) (h.asked mid) (h.asked new) one two
+asks_all h old mid new j one two = adds_then (source_opens j.inputs) (sink_opens j.output) (h.asked old) (h.asked mid) (h.asked new) one two
 
 pub ends_done : {T I O V : Type 0} (h : Told T I O) (left : I → Option (List ℕ)) (taken : O → Option (List ℕ)) (old mid new : T) (j : Job) (texts : V → List (List ℕ)) (v : V) (p : Plan) →
     ReadingAll h left old mid j.inputs texts (Ok v) → h.sinks_back mid ≡ h.sinks_back old → Plans (j.Gives (texts v)) (j.Refuses (texts v)) (Ok p) → Writing h taken mid new j.output (bytes_of p) (Ok tt) →
@@ -108,7 +108,7 @@ ends_writing h left taken old mid new j texts v p failed.Memory settled r back p
   (
     length (source_opens j.inputs) + w.0.0,
     asks_front (source_opens j.inputs) (sink_opens j.output) w.0.0 (h.asked old) (h.asked new)
-        (asks_then (source_opens j.inputs) (take w.0.0 (sink_opens j.output)) (h.asked old) (h.asked mid) (h.asked new) r.1 w.0.1),
+        (adds_then (source_opens j.inputs) (take w.0.0 (sink_opens j.output)) (h.asked old) (h.asked mid) (h.asked new) r.1 w.0.1),
   ),
   w.1 ∙ back,
   w.2 ∙ r.2,

@@ -6,5 +6,6 @@ mod FourTexts
 mod Lines
 mod NoBase
 mod Reading
+mod Returning
 mod Words
 mod Writing

@@ -8,9 +8,9 @@ use Rattle.std.proofs.lemmas.List.Folds.{flat_map-map}
 use Rattle.std.proofs.Math.Seq.{take-append-add}
 use Rattle.eco_common.specs.Causes.{Rose}
 use Rattle.eco_cli.specs.CommandLine.{inputs_in, input_at, listed_of, value_of}
-use Rattle.eco_cli.specs.Ending.{IsText, IsRead, AreRead, AsksAll, ready_after, Reaches}
-use Rattle.eco_cli.specs.Job.{Input, source_opens}
-use Rattle.eco_cli.specs.Opens.{Told, Ready, Asked, Settled, for_source, without_first, with_asked}
+use Rattle.eco_cli.specs.Ending.{IsText, IsRead, AreRead, AsksAll, Reaches}
+use Rattle.eco_cli.specs.Job.{Input, ready_after, source_opens}
+use Rattle.eco_cli.specs.Opens.{Told, Ready, Asked, Settled, Adds, for_source, without_first, with_asked}
 use Rattle.eco_cli.specs.Steps.{Reading, ReadingAll, HaveRead}
 use Rattle.eco_cli.specs.declared.command_option.CommandOption.{CommandOption}
 use Rattle.eco_cli.specs.declared.command_option.OptionKind.TheVariants as kind
@@ -19,13 +19,13 @@ use Rattle.eco_cli.specs.declared.failure.Failure.TheVariants as failed
 
 -- ---- what was asked
 
-pub asks_none : (old new : Option (List Asked)) → new ≡ old → AsksAll [] old new
-asks_none None new is = is
-asks_none (Some before) new is = is ∙ ap Some (sym (append-nil before))
+pub adds_none : {A : Type 0} (old new : Option (List A)) → new ≡ old → Adds [] old new
+adds_none None new is = is
+adds_none (Some before) new is = is ∙ ap Some (sym (append-nil before))
 
-pub asks_then : (xs ys : List Asked) (old mid new : Option (List Asked)) → AsksAll xs old mid → AsksAll ys mid new → AsksAll (xs ++ ys) old new
-asks_then xs ys None mid new one two = two ∙ ap (λ a. option_map (λ b. b ++ ys) a) one
-asks_then xs ys (Some before) mid new one two = two ∙ ap (λ a. option_map (λ b. b ++ ys) a) one ∙ ap Some (append_assoc before xs ys)
+pub adds_then : {A : Type 0} (xs ys : List A) (old mid new : Option (List A)) → Adds xs old mid → Adds ys mid new → Adds (xs ++ ys) old new
+adds_then xs ys None mid new one two = two ∙ ap (λ a. option_map (λ b. b ++ ys) a) one
+adds_then xs ys (Some before) mid new one two = two ∙ ap (λ a. option_map (λ b. b ++ ys) a) one ∙ ap Some (append_assoc before xs ys)
 
 -- some first opens of a list
 pub asks_front : (xs ys : List Asked) (n : ℕ) (old new : Option (List Asked)) → AsksAll (xs ++ take n ys) old new → AsksAll (take (length xs + n) (xs ++ ys)) old new
@@ -33,7 +33,7 @@ asks_front xs ys n old new asked = subst (λ opens. AsksAll opens old new) (sym 
 
 asks_one : (before : List Input) (i : Input) (old mid new : Option (List Asked)) → AsksAll (source_opens before) old mid → new ≡ with_asked mid (for_source i.name) → AsksAll (source_opens (before ++ i ∷ [])) old new
 asks_one before i old mid new one two =
-    subst (λ opens. AsksAll opens old new) (sym (map-append (λ j. for_source j.name) before (i ∷ []))) (asks_then (source_opens before) (for_source i.name ∷ []) old mid new one two)
+    subst (λ opens. AsksAll opens old new) (sym (map-append (λ j. for_source j.name) before (i ∷ []))) (adds_then (source_opens before) (for_source i.name ∷ []) old mid new one two)
 
 -- the inputs before one, that one if it was asked, and no more
 asks_up_to : (before behind : List Input) (i : Input) (n : ℕ) (old new : Option (List Asked)) → AsksAll (source_opens before ++ take n (source_opens (i ∷ behind))) old new →
@@ -99,8 +99,8 @@ stops_at h left old mid new before behind texts i bytes all failed.Read settled 
 stops_at h left old mid new before behind texts i bytes all failed.Write settled have reading = absurd reading
 stops_at h left old mid new before behind texts i bytes all failed.Memory settled have reading = (
   elim reading.0 [
-    | inl none ↦ asks_up_to before behind i 0 (h.asked old) (h.asked new) (asks_then (source_opens before) [] (h.asked old) (h.asked mid) (h.asked new) have.asked (asks_none (h.asked mid) (h.asked new) none))
-    | inr one ↦ asks_up_to before behind i 1 (h.asked old) (h.asked new) (asks_then (source_opens before) (for_source i.name ∷ []) (h.asked old) (h.asked mid) (h.asked new) have.asked one)
+    | inl none ↦ asks_up_to before behind i 0 (h.asked old) (h.asked new) (adds_then (source_opens before) [] (h.asked old) (h.asked mid) (h.asked new) have.asked (adds_none (h.asked mid) (h.asked new) none))
+    | inr one ↦ asks_up_to before behind i 1 (h.asked old) (h.asked new) (adds_then (source_opens before) (for_source i.name ∷ []) (h.asked old) (h.asked mid) (h.asked new) have.asked one)
   ],
   reading.1 ∙ have.refused,
 )
@@ -109,7 +109,7 @@ stops_at h left old mid new before behind texts i bytes all failed.Memory settle
 pub no_room : {T I O V W : Type 0} (h : Told T I O) (left : I → Option (List ℕ)) (old mid new : T) (before behind : List Input) (texts : List (List ℕ)) (i : Input) (bytes : V → List ℕ) (v : V) (all : W → List (List ℕ)) →
     HaveRead h left old mid before texts → Reading h left mid new i bytes (Ok v) → ReadingAll h left old new (before ++ i ∷ behind) all (Err failed.Memory)
 no_room h left old mid new before behind texts i bytes v all have reading = (
-  asks_up_to before behind i 1 (h.asked old) (h.asked new) (asks_then (source_opens before) (for_source i.name ∷ []) (h.asked old) (h.asked mid) (h.asked new) have.asked reading.2),
+  asks_up_to before behind i 1 (h.asked old) (h.asked new) (adds_then (source_opens before) (for_source i.name ∷ []) (h.asked old) (h.asked mid) (h.asked new) have.asked reading.2),
   reading.4 ∙ have.refused,
 )
 

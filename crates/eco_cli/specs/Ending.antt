@@ -1,10 +1,10 @@
 -- How a command line ends, by what the host was and is.
 use Rattle.std.specs.Prelude.{◌≡◌, ℕ, ◌<◌, ◌≤◌, ◌⊎◌, List, [], ◌∷◌, ◌++◌, length, take, Option, Some, None, Result, Ok, Err}
-use Rattle.std.specs.Option.{option_map}
 use Rattle.eco_common.specs.Causes.{Rose}
-use Rattle.eco_cli.specs.Job.{Input, Job, source_opens, opens_of}
+use Rattle.eco_cli.specs.Job.{Input, Job, ready_after, source_opens, opens_of}
 use Rattle.eco_cli.specs.Commands.{job_of, Asks, IsBadWord}
-use Rattle.eco_cli.specs.Opens.{Ready, Asked, Told, without_first, with_back}
+use Rattle.eco_cli.specs.Opens.{Ready, Asked, Told, Adds, without_first, with_back}
+use Rattle.eco_cli.specs.Returns.{Returns}
 use Rattle.eco_cli.specs.declared.command.Command.{Command}
 use Rattle.eco_cli.specs.declared.done.Done.{Done}
 use Rattle.eco_cli.specs.declared.failure.Failure.{Failure}
@@ -20,11 +20,6 @@ IsText {I} ready left name text = (lists : List ℕ → List I) × (source : I) 
 abbrev pub IsRead : {I : Type 0} → Ready I → (I → Option (List ℕ)) → List ℕ → List ℕ → Type 0
 IsRead ready left name bytes = (text : List ℕ) → IsText ready left name text → bytes ≡ text
 
--- what is ready after these inputs were opened
-abbrev pub ready_after : {I : Type 0} → List Input → Ready I → Ready I
-ready_after [] ready = ready
-ready_after (i ∷ is) ready = ready_after is (without_first i.name ready)
-
 -- texts of these inputs were read one after another, none longer than it may be
 abbrev pub AreRead : {I : Type 0} → Ready I → (I → Option (List ℕ)) → List Input → List (List ℕ) → Type 0
 AreRead ready left [] [] = Unit {0}
@@ -33,7 +28,7 @@ AreRead ready left inputs texts = ⊥
 
 -- the host was asked for these opens, and no other
 abbrev pub AsksAll : List Asked → Option (List Asked) → Option (List Asked) → Type 0
-AsksAll opens old new = new ≡ option_map (λ before. before ++ opens) old
+AsksAll opens old new = Adds opens old new
 
 -- All inputs before this one were read, and this one was asked for last.
 pub record Reaches {T I O : Type 0} (h : Told T I O) (left : I → Option (List ℕ)) (old new : T) (inputs before : List Input) (i : Input) : Type 0 where
@@ -87,10 +82,11 @@ Ends h left taken old new j (Err failed.Write) = (texts : List (List ℕ)) × (d
     × (j.output ≡ Some name) × AsksAll (opens_of j) (h.asked old) (h.asked new) × GivesFront taken (h.sinks_back old) (h.sinks_back new) bytes × Rose (h.write_faults old) (h.write_faults new)
 Ends h left taken old new j (Err failed.Memory) = ((k : ℕ) × AsksAll (take k (opens_of j)) (h.asked old) (h.asked new)) × (h.sinks_back new ≡ h.sinks_back old) × (h.refused new ≡ h.refused old)
 
--- How a command line ends: a bad word opens nothing, and the job that a good line asks for ends as it may.
+-- How a command line ends: a bad word opens nothing, and the job that a good line asks for ends as it may and gives back its inputs.
 abbrev pub Comes : {T I O : Type 0} → Told T I O → (I → Option (List ℕ)) → (O → Option (List ℕ)) → T → T → List (List ℕ) → Result Done Failure → Type 0
-Comes h left taken old new words (Err (failed.Words n)) = IsBadWord words n × (h.asked new ≡ h.asked old) × (h.sinks_back new ≡ h.sinks_back old)
+Comes h left taken old new words (Err (failed.Words n)) = IsBadWord words n × (h.asked new ≡ h.asked old) × (h.sinks_back new ≡ h.sinks_back old) × (h.sources_back new ≡ h.sources_back old)
 Comes h left taken old new words r = (c : Command) × (behind : List (List ℕ)) × Asks words c behind × Ends h left taken old new (job_of c behind) r
+    × Returns h left old new (job_of c behind).inputs r
 
 -- a refusal of an input or of what the words ask in it
 abbrev pub IsRefusal : Failure → Type 0

@@ -1,6 +1,6 @@
 -- The work that a command line asks for.
 use Rattle.std.specs.Prelude.{ℕ, List, [], ◌∷◌, ◌++◌, map, Option, Some, None}
-use Rattle.eco_cli.specs.Opens.{Asked, for_source, for_sink}
+use Rattle.eco_cli.specs.Opens.{Asked, Ready, for_source, for_sink, without_first}
 use Rattle.eco_cli.specs.declared.done.Done.{Done}
 use Rattle.eco_cli.specs.declared.refusal.Refusal.{Refusal}
 
@@ -17,6 +17,11 @@ pub record Job : Type 1 where
   pub output : Option (List ℕ)
   pub Gives : List (List ℕ) → Done → List ℕ → Type 0
   pub Refuses : List (List ℕ) → Refusal → Type 0
+
+-- what is ready after these inputs were opened
+abbrev pub ready_after : {I : Type 0} → List Input → Ready I → Ready I
+ready_after [] ready = ready
+ready_after (i ∷ is) ready = ready_after is (without_first i.name ready)
 
 abbrev pub source_opens : List Input → List Asked
 source_opens inputs = map (λ i. for_source i.name) inputs

@@ -2,6 +2,7 @@ pub mod Opens
 pub mod Laid
 pub mod Whole
 pub mod Job
+pub mod Returns
 pub mod ValueForms
 pub mod CommandLine
 pub mod Designs

@@ -32,6 +32,10 @@ abbrev pub Gives : {A : Type 0} → List ℕ → Ready A → Ready A → Result 
 Gives name old new (Ok x) = IsFirst name old x × (new ≡ without_first name old)
 Gives name old new (Err e) = new ≡ old
 
+-- these came after what was there, where it is told
+abbrev pub Adds : {A : Type 0} → List A → Option (List A) → Option (List A) → Type 0
+Adds xs old new = new ≡ option_map (λ before. before ++ xs) old
+
 -- one more open was asked, unless it found no memory
 abbrev pub with_asked : Option (List Asked) → Asked → Option (List Asked)
 with_asked asked a = option_map (λ before. before ++ a ∷ []) asked

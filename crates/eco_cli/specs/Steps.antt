@@ -4,8 +4,8 @@ use Rattle.eco_common.specs.Causes.{Rose}
 use Rattle.eco_def.specs.Sections.{IsReadingOf}
 use Rattle.eco_issued_laws.specs.Issued.{edited}
 use Rattle.eco_overlay.specs.Overlays.{IsMadeFor}
-use Rattle.eco_cli.specs.Job.{Input, source_opens, sink_opens}
-use Rattle.eco_cli.specs.Ending.{IsText, IsRead, AreRead, AsksAll, ready_after, StopsLong, StopsFailed, GivesFront, Puts}
+use Rattle.eco_cli.specs.Job.{Input, ready_after, source_opens, sink_opens}
+use Rattle.eco_cli.specs.Ending.{IsText, IsRead, AreRead, AsksAll, StopsLong, StopsFailed, GivesFront, Puts}
 use Rattle.eco_cli.specs.Opens.{for_source, Told, without_first, with_asked}
 use Rattle.eco_cli.specs.declared.done.Done.{Done}
 use Rattle.eco_cli.specs.declared.done.Done.TheVariants as done

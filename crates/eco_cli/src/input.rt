@@ -1,7 +1,7 @@
 //! Reading an input to its end.
 
 ghost use Rattle.std.specs.Prelude.{◌<◌, ◌≤◌};
-ghost use Rattle.eco_cli.specs.Whole.{ReadsAll};
+ghost use Rattle.eco_cli.specs.Whole.{ReadsAll, ReadsTo};
 
 use eco_text::Source;
 use std::alloc::Global;
@@ -22,6 +22,7 @@ pub fn read_all<S: Source>(
 ) -> Result<Vec<u8>, InputFault>
     requires { limit < 4294967296 }
     ensures reads { ReadsAll limit (S.left source.old) (S.faults source.old) (S.faults source.new) (λ v. v.items) result }
+    ensures returned { ReadsTo limit (S.left source.old) (S.left source.new) result }
     ensures later { S.faults source.old ≤ S.faults source.new }
 {
     let mut bytes = Vec::new(alloc);

@@ -26,6 +26,7 @@ fn fill<K: Sink>(plan: &Plan, sink: &mut K) -> Result<(), Failed>
 fn write_to<H: Host>(host: &mut H, name: &str, plan: &Plan) -> Result<(), Failure>
     requires { CanBeIssued plan.now }
     ensures writing { Writing H.told H.Output.taken host.old host.new (Some name.now) (bytes_of plan.now) result }
+    ensures sources { H.told.sources_back host.new ≡ H.told.sources_back host.old }
     ensures settled { Settled H.told host.old host.new }
 {
     let mut sink = match host.sink(name) {
@@ -45,6 +46,7 @@ fn write_to<H: Host>(host: &mut H, name: &str, plan: &Plan) -> Result<(), Failur
 pub fn write_output<H: Host>(host: &mut H, output: Option<&str>, plan: &Plan) -> Result<(), Failure>
     requires { CanBeIssued plan.now }
     ensures writing { Writing H.told H.Output.taken host.old host.new (option_map (λ name. name.now) output.entry) (bytes_of plan.now) result }
+    ensures sources { H.told.sources_back host.new ≡ H.told.sources_back host.old }
     ensures settled { Settled H.told host.old host.new }
 {
     match output {

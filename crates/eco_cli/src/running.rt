@@ -1,13 +1,15 @@
 //! Running a command line.
 
-ghost use Rattle.std.specs.Prelude.{◌≡◌, ℕ, ◌≤◌, ◌⊎◌, map, string_bytes, Result, Ok, Err};
+ghost use Rattle.std.specs.Prelude.{◌≡◌, ℕ, ◌≤◌, ◌⊎◌, List, map, string_bytes, Result, Ok, Err};
 ghost use Rattle.std.specs.Io.KnownBytes.{append_known};
 ghost use Rattle.eco_common.specs.Causes.{Rose};
 ghost use Rattle.eco_cli.specs.CommandLine.{HasReading};
-ghost use Rattle.eco_cli.specs.Commands.{options_of, job_of, IsBadWord};
+ghost use Rattle.eco_cli.specs.Commands.{options_of, job_of, Asks, IsBadWord};
 ghost use Rattle.eco_cli.specs.Opens.{Settled};
 ghost use Rattle.eco_cli.specs.Ending.{Ends, Comes, IsRefusal};
+ghost use Rattle.eco_cli.specs.Returns.{Returns, ReturnsSome};
 ghost use Rattle.eco_cli.specs.Telling.{status_of, line_of, Tells};
+ghost use Rattle.eco_cli.specs.declared.command.Command.{Command};
 ghost use Rattle.eco_cli.specs.declared.done.Done.{Done};
 ghost use Rattle.eco_cli.specs.declared.failure.Failure.{Failure};
 ghost use Rattle.eco_cli.specs.declared.failure.Failure.TheVariants.{Words};
@@ -28,6 +30,7 @@ use std::alloc::Global;
 fn carry_out<H: Host>(alloc: Global, asked: &Asked<'_>, host: &mut H) -> Result<Done, Failure>
     requires { HasReading (options_of asked.now.command) (map string_bytes asked.now.values.now) }
     ensures ends { Ends H.told H.Input.left H.Output.taken host.old host.new (job_of asked.now.command (map string_bytes asked.now.values.now)) result }
+    ensures returned { Returns H.told H.Input.left host.old host.new (job_of asked.now.command (map string_bytes asked.now.values.now)).inputs result }
     ensures settled { Settled H.told host.old host.new }
 {
     let options = options(asked.command);
@@ -64,6 +67,7 @@ pub fn run<H: Host, S: Source, O: Sink>(
     ensures refused { result ≡ 1 → (e : Failure) × IsRefusal e × Comes H.told H.Input.left H.Output.taken host.old host.new (map string_bytes words.now) (Err e) × (O.taken out.new ≡ append_known (O.taken out.old) (line_of (Err e))) }
     ensures words { result ≡ 2 → (n : ℕ) × Comes H.told H.Input.left H.Output.taken host.old host.new (map string_bytes words.now) (Err (Words n)) × (O.taken out.new ≡ append_known (O.taken out.old) (line_of (Err (Words n)))) }
     ensures bad_word { (n : ℕ) → IsBadWord (map string_bytes words.now) n → (result ≡ 2) ⊎ (result ≡ 4) }
+    ensures returned { (c : Command) → (after : List (List ℕ)) → Asks (map string_bytes words.now) c after → ReturnsSome H.told H.Input.left host.old host.new (job_of c after).inputs }
     ensures read { result ≡ 3 → Rose (H.told.refused host.old) (H.told.refused host.new) ⊎ Rose (H.told.read_faults host.old) (H.told.read_faults host.new) }
     ensures write { result ≡ 4 → Rose (H.told.write_faults host.old) (H.told.write_faults host.new) ⊎ Rose (O.faults out.old) (O.faults out.new) }
     ensures settled { Settled H.told host.old host.new }

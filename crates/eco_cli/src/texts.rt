@@ -1,8 +1,9 @@
 //! Reading the inputs of a command.
 
-ghost use Rattle.std.specs.Prelude.{◌≡◌, map, string_bytes};
+ghost use Rattle.std.specs.Prelude.{◌≡◌, [], ◌∷◌, map, string_bytes};
 ghost use Rattle.eco_cli.specs.CommandLine.{listed_of, inputs_in};
 ghost use Rattle.eco_cli.specs.Opens.{Settled};
+ghost use Rattle.eco_cli.specs.Returns.{Returns};
 ghost use Rattle.eco_cli.specs.Steps.{Reading, ReadingAll};
 
 use crate::command_line::value;
@@ -22,6 +23,7 @@ fn read_text<H: Host>(
     name: &str,
 ) -> Result<Vec<u8>, Failure>
     ensures reading { Reading H.told H.Input.left host.old host.new (record { option = option.now; name = name.now; limit = limit }) (λ v. v.items) result }
+    ensures returned { Returns H.told H.Input.left host.old host.new (record { option = option.now; name = name.now; limit = limit } ∷ []) result }
     ensures settled { Settled H.told host.old host.new }
     ensures sinks { H.told.sinks_back host.new ≡ H.told.sinks_back host.old }
 {
@@ -48,6 +50,7 @@ pub fn read_texts<H: Host>(
     words: &[String],
 ) -> Result<Vec<Vec<u8>>, Failure>
     ensures reading { ReadingAll H.told H.Input.left host.old host.new (inputs_in (map listed_of options.now) (map string_bytes words.now)) (λ v. map (λ t. t.items) v.items) result }
+    ensures returned { Returns H.told H.Input.left host.old host.new (inputs_in (map listed_of options.now) (map string_bytes words.now)) result }
     ensures settled { Settled H.told host.old host.new }
     ensures sinks { H.told.sinks_back host.new ≡ H.told.sinks_back host.old }
 {

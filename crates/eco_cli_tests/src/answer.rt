@@ -1,7 +1,7 @@
 //! What a command line answers, as plain text.
 
-use crate::inputs::{DEF, DESK, FUNCTIONS, LEF};
 use eco_cli::{MemoryHost, run};
+use eco_small_base::{DEF, DESK, FUNCTIONS, LEF};
 use eco_text::{ByteSink, ByteSource};
 use std::alloc::Global;
 use std::test::Fail;
@@ -83,14 +83,23 @@ pub fn answer(
     Ok(said)
 }
 
+/// A text in which, pair after pair, the second stands in the place of the first.
+pub fn replaced(alloc: Global, text: &str, edits: &[(&str, &str)]) -> Result<String, Fail> {
+    let mut text = String::from_str(alloc, text)?;
+    for (old, new) in edits {
+        text = text.replace(alloc, old, new)?;
+    }
+    Ok(text)
+}
+
 /// Runs a line at a host that has the texts of the small base under the names l, d, f and k, and all four in this order
-/// under the name a. In the line and in the texts `new` stands in the place of `old`.
-pub fn edited(alloc: Global, line: &str, old: &str, new: &str) -> Result<String, Fail> {
-    let line = line.replace(alloc, old, new)?;
-    let lef = LEF.replace(alloc, old, new)?;
-    let def = DEF.replace(alloc, old, new)?;
-    let functions = FUNCTIONS.replace(alloc, old, new)?;
-    let desk = DESK.replace(alloc, old, new)?;
+/// under the name a. The line and the texts are edited pair after pair.
+pub fn edited_by(alloc: Global, line: &str, edits: &[(&str, &str)]) -> Result<String, Fail> {
+    let line = replaced(alloc, line, edits)?;
+    let lef = replaced(alloc, LEF, edits)?;
+    let def = replaced(alloc, DEF, edits)?;
+    let functions = replaced(alloc, FUNCTIONS, edits)?;
+    let desk = replaced(alloc, DESK, edits)?;
     let texts = [
         ("l", lef.as_str()),
         ("d", def.as_str()),
@@ -102,6 +111,11 @@ pub fn edited(alloc: Global, line: &str, old: &str, new: &str) -> Result<String,
         ("a", desk.as_str()),
     ];
     answer(alloc, &line, &texts, NONE)
+}
+
+/// The same where `new` stands in the place of `old`.
+pub fn edited(alloc: Global, line: &str, old: &str, new: &str) -> Result<String, Fail> {
+    edited_by(alloc, line, &[(old, new)])
 }
 
 /// Runs a line at a host that has the texts of the small base under the names l, d, f and k, and this under the name x.

@@ -1,7 +1,7 @@
 //! Lines that issue a DEF, and orders that are refused.
 
 use crate::answer::edited;
-use crate::inputs::DEF;
+use eco_small_base::DEF;
 use std::process::Abort;
 use std::test::Fail;
 

@@ -4,14 +4,16 @@
 #[cfg(test)]
 mod answer;
 #[cfg(test)]
-mod faults;
+mod digest;
 #[cfg(test)]
-mod inputs;
+mod faults;
 #[cfg(test)]
 mod issuing;
 #[cfg(test)]
 mod limits;
 #[cfg(test)]
 mod reading;
+#[cfg(test)]
+mod ties;
 #[cfg(test)]
 mod words;

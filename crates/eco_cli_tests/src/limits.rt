@@ -1,7 +1,6 @@
 //! Texts at their limits, and beyond.
 
 use crate::answer::beside;
-use crate::inputs;
 use std::alloc::Global;
 use std::process::Abort;
 use std::test::Fail;
@@ -101,7 +100,7 @@ fn more_joints_than_there_may_be(rt: HostRuntime) -> Result<(), Fail> {
 fn stocked(alloc: Global, count: u32) -> Result<String, Fail> {
     let comps = counted(alloc, "- SP_# INV + FIXED ( 0 0 ) N ;\n", count)?;
     let pins = counted(alloc, "( SP_# A ) ", count)?;
-    let text = inputs::DEF.replace(
+    let text = eco_small_base::DEF.replace(
         alloc,
         "END COMPONENTS",
         &format!(in alloc; "{comps}END COMPONENTS")?,

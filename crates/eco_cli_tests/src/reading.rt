@@ -1,7 +1,7 @@
 //! The inputs and outputs of a command: their order, those that are absent, and those that fail.
 
 use crate::answer::{Failing, answer, edited};
-use crate::inputs::DEF;
+use eco_small_base::DEF;
 use std::process::Abort;
 use std::test::Fail;
 

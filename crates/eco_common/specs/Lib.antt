@@ -3,3 +3,4 @@ pub mod KnownNames
 pub mod Causes
 pub mod Options
 pub mod Joints
+pub mod Sizes

@@ -1,10 +1,17 @@
-//! Points and directions.
+//! Points, sizes and directions.
 
-/// A point in database units.
+/// A point, in database units or in halves of them.
 #[derive(Clone, Copy, Debug, Drop, PartialEq, Eq)]
 pub struct Point {
-    pub x: i32,
-    pub y: i32,
+    pub x: i64,
+    pub y: i64,
+}
+
+/// A width and a height in millionths of a micron.
+#[derive(Clone, Copy, Debug, Drop, PartialEq, Eq)]
+pub struct Size {
+    pub width: u64,
+    pub height: u64,
 }
 
 /// Which way a pin goes, seen from its cell or design: LEF `PIN DIRECTION`, DEF `PINS + DIRECTION`.

@@ -12,11 +12,13 @@ mod name_bytes;
 mod names;
 
 pub use crate::failed::Failed;
-pub use crate::geometry::{Dir, Point};
+pub use crate::geometry::{Dir, Point, Size};
 pub use crate::limits::{
-    MAX_COMPS, MAX_DEF_BYTES, MAX_DESK_BYTES, MAX_FUNCTIONS_BYTES, MAX_JOINTS, MAX_LEF_BYTES,
+    MAX_CENTRE, MAX_COMPS, MAX_DEF_BYTES, MAX_DESK_BYTES, MAX_EXPRESSION_BYTES,
+    MAX_EXPRESSION_DEPTH, MAX_FUNCTIONS_BYTES, MAX_INPUTS, MAX_JOINTS, MAX_LEF_BYTES,
     MAX_LISTED_COMPS, MAX_LISTED_NETS, MAX_MASTERS, MAX_MILLIONTHS, MAX_NAME_BYTES, MAX_NETS,
-    MAX_ORDER_BYTES, MAX_STOCK, MAX_TOP_PINS, MAX_UNITS,
+    MAX_NEW_NET_BYTES, MAX_ORDER_BYTES, MAX_OUTPUTS, MAX_ROWS, MAX_STOCK, MAX_TOP_PINS, MAX_UNITS,
+    MIN_CENTRE,
 };
 pub use crate::memory::Memory;
 pub use crate::name::Name;

@@ -24,6 +24,11 @@ pub const MAX_MILLIONTHS: u64 = 10_000_000_000;
 /// The most database units in a micron: DEF `UNITS DISTANCE MICRONS`.
 pub const MAX_UNITS: u32 = 1_000_000;
 
+/// The least and the greatest coordinate of a component's centre, in halves of a database unit.
+pub const MIN_CENTRE: i64 = -4_294_967_296;
+
+pub const MAX_CENTRE: i64 = 14_294_967_294;
+
 /// The most components of a DEF.
 pub const MAX_COMPS: usize = 1_000_000;
 
@@ -47,3 +52,21 @@ pub const MAX_LISTED_COMPS: usize = 1_100_000;
 
 /// The most nets of a netlist: those that a DEF states or names, and what is inserted later.
 pub const MAX_LISTED_NETS: usize = 9_000_000;
+
+/// The most inputs of a master, and of a truth table.
+pub const MAX_INPUTS: usize = 6;
+
+/// The most rows of a truth table: two to the most inputs.
+pub const MAX_ROWS: u32 = 64;
+
+/// The most outputs of a master.
+pub const MAX_OUTPUTS: usize = 8;
+
+/// The longest expression of a functions file, in bytes.
+pub const MAX_EXPRESSION_BYTES: usize = 4_096;
+
+/// How deep parentheses and `!` nest in an expression.
+pub const MAX_EXPRESSION_DEPTH: u32 = 64;
+
+/// The longest name of a new net, in bytes.
+pub const MAX_NEW_NET_BYTES: usize = 255;

@@ -2,6 +2,7 @@
 use Rattle.std.specs.List.{flat_map}
 use Rattle.std.proofs.Common.{◌≡◌, ◌⊎◌, inl, inr, ℕ, zero, suc, ◌-◌, ◌≤◌, nat_lt, Bool, true, false, not, List, [], ◌∷◌, ◌++◌, length, map, Option, Some, None, Result, Ok, Err, refl, ap, sym, ◌∙◌, arith, length-append, codes, if◌then◌else◌}
 use Rattle.std.proofs.lemmas.Bool.{ltb-true, ltb-false}
+use Rattle.eco_common.specs.declared.limits.TheConstants.{MAX_COMPS, MAX_TOP_PINS}
 use Rattle.eco_text.specs.Words.{Token, Walk, finished, open_quote, word_then, walk_of}
 use Rattle.eco_def.specs.declared.fault.DefFault.{DefFault}
 use Rattle.eco_def.specs.declared.fault.DefFault.TheVariants.{BadStatement, TwiceNamed, MustJoin, UnknownHeading, Limit}
@@ -11,7 +12,7 @@ use Rattle.eco_text.specs.Tokens.{is_word, is_name}
 use Rattle.eco_common.specs.NameBytes.{is_among}
 use Rattle.eco_common.specs.Options.{first_some}
 use Rattle.eco_def.specs.Design.{Comp, Joint, Net, NetSection, Part, Comps, Pins, Special, Nets}
-use Rattle.eco_def.specs.Grammar.{most_statements, whole_room, comp_place, comp_new_within, comp_within, comp, comp_section_within, pin_named, top_pin_new_within, top_pin_within, top_pin, pin_section_within, joint, joint_within, joints_within, net_tail, net_name_within, net_name, net_new_within, net_within, net, nets_within, special_section_within, net_section_within, section_head, section_end, Kind, CompKind, PinKind, SpecialKind, NetKind, have, once, statements_of, units, passed_section, passed_up_to, part_new_within, part_within, part, end_design, parts_within, last_some, units_of, comps_of, nets_of, design_from, design_read, joint_count, room_after}
+use Rattle.eco_def.specs.Grammar.{whole_room, comp_place, comp_new_within, comp_within, comp, comp_section_within, pin_named, top_pin_new_within, top_pin_within, top_pin, pin_section_within, joint, joint_within, joints_within, net_tail, net_name_within, net_name, net_new_within, net_within, net, nets_within, special_section_within, net_section_within, section_head, section_end, Kind, CompKind, PinKind, SpecialKind, NetKind, have, once, statements_of, units, passed_section, passed_up_to, part_new_within, part_within, part, end_design, parts_within, last_some, units_of, comps_of, nets_of, design_from, design_read, joint_count, room_after}
 use Rattle.eco_def.specs.Limits.{first_values, NameAbove, JointAbove, NetsFull, IsAbove, CompAbove, PinAbove, SpecialNetAbove, NetAbove, SpecialJointAbove, NetJointAbove, HaveRoom, PartsKeep, LimitStands}
 use Rattle.eco_def.proofs.Limited.{Limited}
 use Rattle.eco_def.proofs.Quiet.{Quiet, fault_same, no_fault, bad, quiet_refuse, quiet_give, quiet_then, quiet_word, quiet_name, quiet_comp_place, quiet_head, quiet_end, quiet_pin_named, quiet_joint, quiet_net_tail, quiet_units, quiet_passed_section, quiet_passed_up_to, quiet_end_design}
@@ -183,21 +184,21 @@ limit_section {A} heading p q In f each none quiet u place is =
 full_by : (n m : ℕ) → n ≤ m → nat_lt n m ≡ false → n ≡ m
 full_by n m few none = let no = ltb-false n m none in omega arith
 
-comps_above : (u : Walk) (place : ℕ) → comp_section_within (Some most_statements) u ≡ Err (Limit place) → NameAbove (codes "COMPONENTS") comp new_name (λ c. c.name.bytes) (λ cs. length cs ≡ most_statements) u place
+comps_above : (u : Walk) (place : ℕ) → comp_section_within (Some MAX_COMPS) u ≡ Err (Limit place) → NameAbove (codes "COMPONENTS") comp new_name (λ c. c.name.bytes) (λ cs. length cs ≡ MAX_COMPS) u place
 unfolding comp_section_within
 comps_above u place is =
-    let s = limit_section (codes "COMPONENTS") (comp_within (Some most_statements)) comp (AtMost most_statements) (λ count cs. section_end (codes "COMPONENTS") >>= λ end. give (Comps cs)) (λ xs u on within. limited_comp xs u within) (omega arith)
+    let s = limit_section (codes "COMPONENTS") (comp_within (Some MAX_COMPS)) comp (AtMost MAX_COMPS) (λ count cs. section_end (codes "COMPONENTS") >>= λ end. give (Comps cs)) (λ xs u on within. limited_comp xs u within) (omega arith)
     (λ count cs. quiet_then (section_end (codes "COMPONENTS")) _ (quiet_end _) (λ end. quiet_give (Comps cs))) u place is in
-    let n = limit_comp (nat_lt (length s.comes.values) most_statements) (is_among (map (λ c. c.name.bytes) s.comes.values)) s.comes.rest place s.comes.next in
-    record { count = s.comes.count; before = s.comes.values; at = s.comes.rest; name = n.name; rest = n.rest; read = s.read; full = full_by (length s.comes.values) most_statements s.comes.within n.none; next = n.read; here = n.here }
+    let n = limit_comp (nat_lt (length s.comes.values) MAX_COMPS) (is_among (map (λ c. c.name.bytes) s.comes.values)) s.comes.rest place s.comes.next in
+    record { count = s.comes.count; before = s.comes.values; at = s.comes.rest; name = n.name; rest = n.rest; read = s.read; full = full_by (length s.comes.values) MAX_COMPS s.comes.within n.none; next = n.read; here = n.here }
 
-pins_above : (u : Walk) (place : ℕ) → pin_section_within (Some most_statements) u ≡ Err (Limit place) → NameAbove (codes "PINS") top_pin new_name (λ p. p.name.bytes) (λ pins. length pins ≡ most_statements) u place
+pins_above : (u : Walk) (place : ℕ) → pin_section_within (Some MAX_TOP_PINS) u ≡ Err (Limit place) → NameAbove (codes "PINS") top_pin new_name (λ p. p.name.bytes) (λ pins. length pins ≡ MAX_TOP_PINS) u place
 unfolding pin_section_within
 pins_above u place is =
-    let s = limit_section (codes "PINS") (top_pin_within (Some most_statements)) top_pin (AtMost most_statements) (λ count ps. section_end (codes "PINS") >>= λ end. give (Pins ps)) (λ xs u on within. limited_pin xs u within) (omega arith)
+    let s = limit_section (codes "PINS") (top_pin_within (Some MAX_TOP_PINS)) top_pin (AtMost MAX_TOP_PINS) (λ count ps. section_end (codes "PINS") >>= λ end. give (Pins ps)) (λ xs u on within. limited_pin xs u within) (omega arith)
     (λ count ps. quiet_then (section_end (codes "PINS")) _ (quiet_end _) (λ end. quiet_give (Pins ps))) u place is in
-    let n = limit_pin (nat_lt (length s.comes.values) most_statements) (is_among (map (λ p. p.name.bytes) s.comes.values)) s.comes.rest place s.comes.next in
-    record { count = s.comes.count; before = s.comes.values; at = s.comes.rest; name = n.name; rest = n.rest; read = s.read; full = full_by (length s.comes.values) most_statements s.comes.within n.none; next = n.read; here = n.here }
+    let n = limit_pin (nat_lt (length s.comes.values) MAX_TOP_PINS) (is_among (map (λ p. p.name.bytes) s.comes.values)) s.comes.rest place s.comes.next in
+    record { count = s.comes.count; before = s.comes.values; at = s.comes.rest; name = n.name; rest = n.rest; read = s.read; full = full_by (length s.comes.values) MAX_TOP_PINS s.comes.within n.none; next = n.read; here = n.here }
 
 -- ---- net statements
 
@@ -334,8 +335,8 @@ limit_part ps keep =
     let seen = have ps in
     let room : Option Room = Some (room_after whole_room (flat_map statements_of ps)) in
     to_choose C _ _ _ (to_quiet C units quiet_units)
-    (to_choose C _ _ _ (to_once C seen CompKind (comp_section_within (Some most_statements)) (λ fresh u place is. CompAbove fresh (comps_above u place is)))
-    (to_choose C _ _ _ (to_once C seen PinKind (pin_section_within (Some most_statements)) (λ fresh u place is. PinAbove fresh (pins_above u place is)))
+    (to_choose C _ _ _ (to_once C seen CompKind (comp_section_within (Some MAX_COMPS)) (λ fresh u place is. CompAbove fresh (comps_above u place is)))
+    (to_choose C _ _ _ (to_once C seen PinKind (pin_section_within (Some MAX_TOP_PINS)) (λ fresh u place is. PinAbove fresh (pins_above u place is)))
     (to_choose C _ _ _ (to_once C seen SpecialKind (special_section_within room) (λ fresh u place is. special u place fresh (special_above (flat_map statements_of ps) keep u place is)))
     (to_choose C _ _ _ (to_once C seen NetKind (net_section_within room) (λ fresh u place is. ordinary u place fresh (ordinary_above (flat_map statements_of ps) keep u place is)))
     (to_choose C _ _ _ (to_quiet C passed_section quiet_passed_section)

@@ -1,13 +1,14 @@
 -- Parts with limits beside those without.
 use Rattle.std.specs.List.{flat_map}
 use Rattle.std.proofs.Common.{◌≡◌, ℕ, suc, ◌+◌, ◌≤◌, Bool, true, false, not, ◌||◌, List, [], ◌∷◌, ◌++◌, length, Some, Ok, refl, ap, sym, ◌∙◌, subst, arith, length-append, append-nil, append_assoc, codes, if◌then◌else◌}
+use Rattle.eco_common.specs.declared.limits.TheConstants.{MAX_COMPS, MAX_TOP_PINS}
 use Rattle.eco_text.specs.Words.{Walk}
 use Rattle.eco_def.specs.declared.fault.DefFault.TheVariants.{TwiceNamed, UnknownHeading}
 use Rattle.eco_def.specs.declared.room.Room.{Room}
 use Rattle.eco_def.specs.Parsing.{Parser, ◌>>=◌, give, any, refuse, word, valued, pass_to, pass_to_both, many, many_until, size}
 use Rattle.eco_text.specs.Tokens.{is_word}
 use Rattle.eco_def.specs.Design.{Comp, TopPin, Net, NetSection, Part, Passed, Units, Comps, Pins, Special, Nets}
-use Rattle.eco_def.specs.Grammar.{most_statements, whole_room, room_after, units, units_number, comp_section_within, comp_section, comps, pin_section_within, pin_section, top_pin, special_section_within, special_section, net_section_within, net_section, nets, section_head, section_end, passed_section, passed_up_to, Kind, CompKind, PinKind, SpecialKind, NetKind, kind_of, same_kind, have, once, part_new_within, part_new, statements_of, part_within, part, end_design, parts_within, parts}
+use Rattle.eco_def.specs.Grammar.{whole_room, room_after, units, units_number, comp_section_within, comp_section, comps, pin_section_within, pin_section, top_pin, special_section_within, special_section, net_section_within, net_section, nets, section_head, section_end, passed_section, passed_up_to, Kind, CompKind, PinKind, SpecialKind, NetKind, kind_of, same_kind, have, once, part_new_within, part_new, statements_of, part_within, part, end_design, parts_within, parts}
 use Rattle.eco_def.specs.Sections.{room_of}
 use Rattle.eco_def.proofs.Limited.{Limited, same, refusing, as_well, then_before, Limits, limits_choose, all_limited, Gives, gives_then, gives_give, gives_choose, gives_refuse}
 use Rattle.eco_def.specs.Limits.{HaveRoom, comps_in, pins_in, PartsKeep}
@@ -21,8 +22,8 @@ use Rattle.eco_def.proofs.Parts.{statements_push}
 abbrev PartKeeps : Room → Part → Type 0
 PartKeeps room Passed = Unit {0}
 PartKeeps room (Units n) = Unit {0}
-PartKeeps room (Comps cs) = AtMost most_statements cs
-PartKeeps room (Pins ps) = AtMost most_statements ps
+PartKeeps room (Comps cs) = AtMost MAX_COMPS cs
+PartKeeps room (Pins ps) = AtMost MAX_TOP_PINS ps
 PartKeeps room (Special ns) = HaveRoom room ns
 PartKeeps room (Nets s) = HaveRoom room s.nets
 
@@ -100,8 +101,8 @@ unfolding part_new_within
 limited_part seen room =
     let P = PartKeeps room in
     limits_choose P _ _ _ _ _ (limits_same P units (gives_units P (λ n. tt)))
-    (limits_choose P _ _ _ _ _ (limited_once P seen CompKind (comp_section_within (Some most_statements)) comp_section (limited_comp_section P (λ cs fits. fits) (λ cs fits. fits)))
-    (limits_choose P _ _ _ _ _ (limited_once P seen PinKind (pin_section_within (Some most_statements)) pin_section (limited_pin_section P (λ ps fits. fits) (λ ps fits. fits)))
+    (limits_choose P _ _ _ _ _ (limited_once P seen CompKind (comp_section_within (Some MAX_COMPS)) comp_section (limited_comp_section P (λ cs fits. fits) (λ cs fits. fits)))
+    (limits_choose P _ _ _ _ _ (limited_once P seen PinKind (pin_section_within (Some MAX_TOP_PINS)) pin_section (limited_pin_section P (λ ps fits. fits) (λ ps fits. fits)))
     (limits_choose P _ _ _ _ _ (limited_once P seen SpecialKind (special_section_within (Some room)) special_section (limited_special_section P room (λ ns fits. fits) (λ ns fits. fits)))
     (limits_choose P _ _ _ _ _ (limited_once P seen NetKind (net_section_within (Some room)) net_section (limited_net_section P room (λ s fits. fits) (λ s fits. fits)))
     (limits_choose P _ _ _ _ _ (limits_same P passed_section (gives_passed_section P tt))
@@ -184,7 +185,7 @@ one_keeps before p keep fresh fits =
       nets = subst (HaveRoom whole_room) (sym (statements_push before p)) (few_nets p fits);
     }
   where
-    few_comps : (p : Part) → Fresh (have before) p → PartKeeps (room_of before) p → length (flat_map comps_in (before ++ p ∷ [])) ≡ length (flat_map comps_in before) + length (comps_in p) → length (flat_map comps_in (before ++ p ∷ [])) ≤ most_statements
+    few_comps : (p : Part) → Fresh (have before) p → PartKeeps (room_of before) p → length (flat_map comps_in (before ++ p ∷ [])) ≡ length (flat_map comps_in before) + length (comps_in p) → length (flat_map comps_in (before ++ p ∷ [])) ≤ MAX_COMPS
     few_comps (Comps cs) fresh fits long = let none = ap length (none_of comps_in CompKind comps_none before fresh) in omega (arith, long, none, fits)
     few_comps Passed fresh fits long = omega (arith, long, keep.comps)
     few_comps (Units n) fresh fits long = omega (arith, long, keep.comps)
@@ -192,7 +193,7 @@ one_keeps before p keep fresh fits =
     few_comps (Special ns) fresh fits long = omega (arith, long, keep.comps)
     few_comps (Nets s) fresh fits long = omega (arith, long, keep.comps)
 
-    few_pins : (p : Part) → Fresh (have before) p → PartKeeps (room_of before) p → length (flat_map pins_in (before ++ p ∷ [])) ≡ length (flat_map pins_in before) + length (pins_in p) → length (flat_map pins_in (before ++ p ∷ [])) ≤ most_statements
+    few_pins : (p : Part) → Fresh (have before) p → PartKeeps (room_of before) p → length (flat_map pins_in (before ++ p ∷ [])) ≡ length (flat_map pins_in before) + length (pins_in p) → length (flat_map pins_in (before ++ p ∷ [])) ≤ MAX_TOP_PINS
     few_pins (Pins ps) fresh fits long = let none = ap length (none_of pins_in PinKind pins_none before fresh) in omega (arith, long, none, fits)
     few_pins Passed fresh fits long = omega (arith, long, keep.pins)
     few_pins (Units n) fresh fits long = omega (arith, long, keep.pins)

@@ -2,6 +2,7 @@
 use Rattle.std.proofs.Common.{◌≡◌, inl, inr, ℕ, suc, ◌+◌, ◌-◌, ◌≤◌, nat_lt, Bool, true, false, List, [], ◌∷◌, ◌++◌, length, map, Option, Some, None, Result, refl, sym, subst, arith, length-append, codes}
 use Rattle.std.proofs.lemmas.Bool.{ltb-true, ltb-false}
 use Rattle.std.proofs.lemmas.List.Sums.{sum_by-cons}
+use Rattle.eco_common.specs.declared.limits.TheConstants.{MAX_COMPS, MAX_TOP_PINS}
 use Rattle.eco_text.specs.Words.{Token, Walk, finished, open_quote, word_then}
 use Rattle.eco_def.specs.declared.fault.DefFault.{DefFault}
 use Rattle.eco_def.specs.declared.fault.DefFault.TheVariants.{BadStatement, TwiceNamed, MustJoin, Limit}
@@ -10,7 +11,7 @@ use Rattle.eco_def.specs.Parsing.{Parser, ◌>>=◌, then_read, give, refuse, an
 use Rattle.eco_text.specs.Tokens.{is_word, is_name}
 use Rattle.eco_common.specs.NameBytes.{is_among}
 use Rattle.eco_def.specs.Design.{Comp, TopPin, Joint, Net, NetSection, Part, Comps, Pins, Special, Nets}
-use Rattle.eco_def.specs.Grammar.{most_statements, joint_count, room_after, comp_new_within, comp_new, comp_within, comp, comps_within, comps, comp_section_within, comp_section, top_pin_new_within, top_pin_new, top_pin_within, top_pin, top_pins_within, pin_section_within, pin_section, joint, joint_within, joints_within, joints, net_tail, net_name_within, net_name, net_new_within, net_new, net_within, net, nets_within, nets, special_section_within, special_section, net_section_within, net_section, section_head, section_end}
+use Rattle.eco_def.specs.Grammar.{joint_count, room_after, comp_new_within, comp_new, comp_within, comp, comps_within, comps, comp_section_within, comp_section, top_pin_new_within, top_pin_new, top_pin_within, top_pin, top_pins_within, pin_section_within, pin_section, joint, joint_within, joints_within, joints, net_tail, net_name_within, net_name, net_new_within, net_new, net_within, net, nets_within, nets, special_section_within, special_section, net_section_within, net_section, section_head, section_end}
 use Rattle.eco_def.specs.Limits.{HaveRoom}
 use Rattle.eco_def.proofs.Limited.{Limited, Never, refusing, as_well, then_after, then_never, then_before, choosing, all_limited, Gives, gives_then, gives_give, no_value}
 use Rattle.eco_def.proofs.Rooms.{joint_count-append}
@@ -59,24 +60,24 @@ full_comp : (known : List ℕ → Bool) (u : Walk) → Limited Never (comp_new_w
 unfolding comp_new_within
 full_comp known u = then_after Never (word (codes "-") u) _ _ (λ dash v. then_never (new_name_within false known v) (new_name known v) _ _ (full_name known v))
 
-pub limited_comp : (before : List Comp) (u : Walk) → AtMost most_statements before → Limited (λ c. AtMost most_statements (before ++ c ∷ [])) (comp_within (Some most_statements) before u) (comp before u)
+pub limited_comp : (before : List Comp) (u : Walk) → AtMost MAX_COMPS before → Limited (λ c. AtMost MAX_COMPS (before ++ c ∷ [])) (comp_within (Some MAX_COMPS) before u) (comp before u)
 limited_comp before u within =
     let known = is_among (map (λ (c : Comp). c.name.bytes) before) in
-    one_of_many most_statements before (λ b. comp_new_within b known u) (comp_new known u) within refl (full_comp known u)
+    one_of_many MAX_COMPS before (λ b. comp_new_within b known u) (comp_new known u) within refl (full_comp known u)
 
-limited_comps : (u : Walk) → Limited (AtMost most_statements) (comps_within (Some most_statements) u) (comps u)
+limited_comps : (u : Walk) → Limited (AtMost MAX_COMPS) (comps_within (Some MAX_COMPS) u) (comps u)
 limited_comps u =
-    all_limited Comp (is_word (codes "-")) (comp_within (Some most_statements)) comp (AtMost most_statements) (at_most_fewer most_statements)
+    all_limited Comp (is_word (codes "-")) (comp_within (Some MAX_COMPS)) comp (AtMost MAX_COMPS) (at_most_fewer MAX_COMPS)
     (λ before v on within. limited_comp before v within)
     (suc (size u)) [] u (omega arith)
 
-pub limited_comp_section : (P : Part → Type 0) → ((cs : List Comp) → AtMost most_statements cs → P (Comps cs)) → ((cs : List Comp) → P (Comps cs) → AtMost most_statements cs) → (u : Walk) → Limited P (comp_section_within (Some most_statements) u) (comp_section u)
+pub limited_comp_section : (P : Part → Type 0) → ((cs : List Comp) → AtMost MAX_COMPS cs → P (Comps cs)) → ((cs : List Comp) → P (Comps cs) → AtMost MAX_COMPS cs) → (u : Walk) → Limited P (comp_section_within (Some MAX_COMPS) u) (comp_section u)
 unfolding comp_section_within
 limited_comp_section P there back u =
     then_after P (section_head (codes "COMPONENTS") u) _ _ (λ count v.
-    then_before (AtMost most_statements) P (comps_within (Some most_statements) v) (comps v) (λ cs. section_end (codes "COMPONENTS") >>= λ end. give (Comps cs))
+    then_before (AtMost MAX_COMPS) P (comps_within (Some MAX_COMPS) v) (comps v) (λ cs. section_end (codes "COMPONENTS") >>= λ end. give (Comps cs))
     (λ cs w p r is within. ends_as (codes "COMPONENTS") (Comps cs) P (there cs within) w p r is)
-    (λ cs w p r is. ends_as (codes "COMPONENTS") (Comps cs) (λ k. P k → AtMost most_statements cs) (back cs) w p r is)
+    (λ cs w p r is. ends_as (codes "COMPONENTS") (Comps cs) (λ k. P k → AtMost MAX_COMPS cs) (back cs) w p r is)
     (limited_comps v))
 
 -- ---- top pins
@@ -85,24 +86,24 @@ full_pin : (known : List ℕ → Bool) (u : Walk) → Limited Never (top_pin_new
 unfolding top_pin_new_within
 full_pin known u = then_after Never (word (codes "-") u) _ _ (λ dash v. then_never (new_name_within false known v) (new_name known v) _ _ (full_name known v))
 
-pub limited_pin : (before : List TopPin) (u : Walk) → AtMost most_statements before → Limited (λ p. AtMost most_statements (before ++ p ∷ [])) (top_pin_within (Some most_statements) before u) (top_pin before u)
+pub limited_pin : (before : List TopPin) (u : Walk) → AtMost MAX_TOP_PINS before → Limited (λ p. AtMost MAX_TOP_PINS (before ++ p ∷ [])) (top_pin_within (Some MAX_TOP_PINS) before u) (top_pin before u)
 limited_pin before u within =
     let known = is_among (map (λ (p : TopPin). p.name.bytes) before) in
-    one_of_many most_statements before (λ b. top_pin_new_within b known u) (top_pin_new known u) within refl (full_pin known u)
+    one_of_many MAX_TOP_PINS before (λ b. top_pin_new_within b known u) (top_pin_new known u) within refl (full_pin known u)
 
-limited_pins : (u : Walk) → Limited (AtMost most_statements) (top_pins_within (Some most_statements) u) (top_pins_within None u)
+limited_pins : (u : Walk) → Limited (AtMost MAX_TOP_PINS) (top_pins_within (Some MAX_TOP_PINS) u) (top_pins_within None u)
 limited_pins u =
-    all_limited TopPin (is_word (codes "-")) (top_pin_within (Some most_statements)) top_pin (AtMost most_statements) (at_most_fewer most_statements)
+    all_limited TopPin (is_word (codes "-")) (top_pin_within (Some MAX_TOP_PINS)) top_pin (AtMost MAX_TOP_PINS) (at_most_fewer MAX_TOP_PINS)
     (λ before v on within. limited_pin before v within)
     (suc (size u)) [] u (omega arith)
 
-pub limited_pin_section : (P : Part → Type 0) → ((ps : List TopPin) → AtMost most_statements ps → P (Pins ps)) → ((ps : List TopPin) → P (Pins ps) → AtMost most_statements ps) → (u : Walk) → Limited P (pin_section_within (Some most_statements) u) (pin_section u)
+pub limited_pin_section : (P : Part → Type 0) → ((ps : List TopPin) → AtMost MAX_TOP_PINS ps → P (Pins ps)) → ((ps : List TopPin) → P (Pins ps) → AtMost MAX_TOP_PINS ps) → (u : Walk) → Limited P (pin_section_within (Some MAX_TOP_PINS) u) (pin_section u)
 unfolding pin_section_within
 limited_pin_section P there back u =
     then_after P (section_head (codes "PINS") u) _ _ (λ count v.
-    then_before (AtMost most_statements) P (top_pins_within (Some most_statements) v) (top_pins_within None v) (λ ps. section_end (codes "PINS") >>= λ end. give (Pins ps))
+    then_before (AtMost MAX_TOP_PINS) P (top_pins_within (Some MAX_TOP_PINS) v) (top_pins_within None v) (λ ps. section_end (codes "PINS") >>= λ end. give (Pins ps))
     (λ ps w p r is within. ends_as (codes "PINS") (Pins ps) P (there ps within) w p r is)
-    (λ ps w p r is. ends_as (codes "PINS") (Pins ps) (λ k. P k → AtMost most_statements ps) (back ps) w p r is)
+    (λ ps w p r is. ends_as (codes "PINS") (Pins ps) (λ k. P k → AtMost MAX_TOP_PINS ps) (back ps) w p r is)
     (limited_pins v))
 
 -- ---- nets

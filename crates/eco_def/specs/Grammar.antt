@@ -1,9 +1,10 @@
 -- The grammar of a design, over its words: LEF/DEF 5.8 Language Reference, "DEF Statement Definitions and Examples",
 -- in the profile of docs/FORMATS.md. A reading may have a room: after as many components, top pins, net statements and
--- joints as fit, the next one is the fault Limit, a statement at its name and a joint at its bracket. With no room there is no limit.
+-- joints as fit, the next one is the fault Limit, a statement at its name and a joint at its bracket. Without a room there is no limit.
 use Rattle.std.specs.Prelude.{ℕ, ◌-◌, nat_le, nat_lt, Bool, true, false, List, [], ◌∷◌, length, map, sum_by, Option, Some, None, is_some, option_and_then, Result, Ok, Err, if◌then◌else◌, codes}
 use Rattle.std.specs.Str.{bytes_eq}
 use Rattle.std.specs.Option.{option_or}
+use Rattle.eco_common.specs.declared.limits.TheConstants.{MAX_UNITS, MAX_COMPS, MAX_TOP_PINS, MAX_NETS, MAX_JOINTS}
 use Rattle.eco_text.specs.Numbers.{number_of, at_most, integer_of}
 use Rattle.std.specs.List.{list_any, flat_map}
 use Rattle.eco_text.specs.Tokens.{is_one_of}
@@ -28,27 +29,18 @@ use Rattle.eco_def.specs.Design.{Comp, TopPin, Joint, Net, NetSection, Part, Pas
 
 -- database units per micron
 abbrev pub units_number : List ℕ → Option ℕ
-units_number bytes = option_and_then (λ n. if nat_le 1 n then Some n else None) (at_most 1000000 (number_of bytes))
+units_number bytes = option_and_then (λ n. if nat_le 1 n then Some n else None) (at_most MAX_UNITS (number_of bytes))
 
 -- the value that stands beside a word
 abbrev pub value_in : {A : Type 0} → List (List ℕ × A) → List ℕ → Option A
 value_in [] bytes = None
 value_in (e ∷ es) bytes = if bytes_eq bytes e.0 then Some e.1 else value_in es bytes
 
--- ---- words
-
 -- ---- rooms
 
--- the most components, top pins, and net statements of both sections together
-abbrev pub most_statements : ℕ
-most_statements = 1000000
-
--- the most joints of both sections together
-abbrev pub most_joints : ℕ
-most_joints = 4000000
-
+-- as many net statements, and as many joints, as both sections together may have
 abbrev pub whole_room : Room
-whole_room = record { nets = most_statements; joints = most_joints }
+whole_room = record { nets = MAX_NETS; joints = MAX_JOINTS }
 
 abbrev pub joint_count : List Net → ℕ
 joint_count ns = sum_by (λ n. length n.joints) ns
@@ -67,9 +59,13 @@ fits None n = true
 fits (Some most) n = nat_lt n most
 
 -- how many components, and how many top pins, may stand
-abbrev pub most_of : Option Room → Option ℕ
-most_of None = None
-most_of (Some room) = Some most_statements
+abbrev pub most_comps : Option Room → Option ℕ
+most_comps None = None
+most_comps (Some room) = Some MAX_COMPS
+
+abbrev pub most_pins : Option Room → Option ℕ
+most_pins None = None
+most_pins (Some room) = Some MAX_TOP_PINS
 
 -- whether a net statement fits, and how many joints it may have
 abbrev pub net_fits : Option Room → Bool
@@ -391,8 +387,8 @@ once seen kind section u = if seen kind then refuse TwiceNamed u else section u
 unfoldable pub part_new_within : Option Room → (Kind → Bool) → Parser Part
 part_new_within room seen =
     choose (is_word (codes "UNITS")) units
-    (choose (is_word (codes "COMPONENTS")) (once seen CompKind (comp_section_within (most_of room)))
-    (choose (is_word (codes "PINS")) (once seen PinKind (pin_section_within (most_of room)))
+    (choose (is_word (codes "COMPONENTS")) (once seen CompKind (comp_section_within (most_comps room)))
+    (choose (is_word (codes "PINS")) (once seen PinKind (pin_section_within (most_pins room)))
     (choose (is_word (codes "SPECIALNETS")) (once seen SpecialKind (special_section_within room))
     (choose (is_word (codes "NETS")) (once seen NetKind (net_section_within room))
     (choose (is_one_of passed_sections) passed_section

@@ -1,6 +1,7 @@
 -- What the limits of a reader change: a design is read where it keeps them, and else the first statement or joint above them is Limit.
 use Rattle.std.specs.Prelude.{◌≡◌, ℕ, zero, suc, ◌+◌, ◌<◌, ◌≤◌, Bool, false, List, [], ◌∷◌, ◌++◌, length, map, Ok, Err, ◌↔◌, codes}
 use Rattle.std.specs.List.{flat_map}
+use Rattle.eco_common.specs.declared.limits.TheConstants.{MAX_COMPS, MAX_TOP_PINS, MAX_NETS, MAX_JOINTS}
 use Rattle.eco_text.specs.Words.{Token, Walk, walk_of}
 use Rattle.eco_def.specs.declared.fault.DefFault.{DefFault}
 use Rattle.eco_def.specs.declared.fault.DefFault.TheVariants.{Limit}
@@ -8,13 +9,13 @@ use Rattle.eco_def.specs.declared.room.Room.{Room}
 use Rattle.eco_def.specs.Parsing.{Parser, ◌>>=◌, then_read, word, new_name}
 use Rattle.eco_common.specs.NameBytes.{is_among}
 use Rattle.eco_def.specs.Design.{Comp, TopPin, Joint, Net, Part, Comps, Pins, Design}
-use Rattle.eco_def.specs.Grammar.{most_statements, most_joints, whole_room, joint_count as joints_of, section_head, comp, top_pin, joint, net_name, net, CompKind, PinKind, SpecialKind, NetKind, have, statements_of, part, design_of, reading_of}
+use Rattle.eco_def.specs.Grammar.{whole_room, joint_count as joints_of, section_head, comp, top_pin, joint, net_name, net, CompKind, PinKind, SpecialKind, NetKind, have, statements_of, part, design_of, reading_of}
 
 pub record WithinLimits (d : Design) : Type 0 where
-  pub comps : length d.comps ≤ most_statements
-  pub pins : length d.pins ≤ most_statements
-  pub nets : length d.special + length d.nets.nets ≤ most_statements
-  pub joints : joints_of d.special + joints_of d.nets.nets ≤ most_joints
+  pub comps : length d.comps ≤ MAX_COMPS
+  pub pins : length d.pins ≤ MAX_TOP_PINS
+  pub nets : length d.special + length d.nets.nets ≤ MAX_NETS
+  pub joints : joints_of d.special + joints_of d.nets.nets ≤ MAX_JOINTS
 
 -- A law: a reader with limits reads the designs that keep them, as they are without limits.
 abbrev pub LimitsKeep : Type 0
@@ -57,21 +58,21 @@ pub record JointAbove (heading : List ℕ) (earlier : List Net) (u : Walk) (plac
   pub bracket : Token
   pub rest : Walk
   pub read : (section_head heading >>= λ head. first_values count net []) u ≡ Ok (before, at)
-  pub fits : length (earlier ++ before) < most_statements
+  pub fits : length (earlier ++ before) < MAX_NETS
   pub named : (word (codes "-") >>= λ dash. net_name (is_among (map (λ s. s.name.bytes) before))) at ≡ Ok (name, inside)
   pub joined : first_values many (λ js. joint) [] inside ≡ Ok (joints, end)
-  pub full : joints_of (earlier ++ before) + length joints ≡ most_joints
+  pub full : joints_of (earlier ++ before) + length joints ≡ MAX_JOINTS
   pub next : word (codes "(") end ≡ Ok (bracket, rest)
   pub here : bracket.start ≡ place
 
 -- the net statements are as many as may stand, and have no more joints than may
 abbrev pub NetsFull : List Net → List Net → Type 0
-NetsFull earlier ns = (length (earlier ++ ns) ≡ most_statements) × (joints_of (earlier ++ ns) ≤ most_joints)
+NetsFull earlier ns = (length (earlier ++ ns) ≡ MAX_NETS) × (joints_of (earlier ++ ns) ≤ MAX_JOINTS)
 
 -- after these parts comes a section with the first statement or joint above a limit, at the place
 pub data IsAbove (ps : List Part) (u : Walk) (place : ℕ) : Type 0 where
-  CompAbove : have ps CompKind ≡ false → NameAbove (codes "COMPONENTS") comp new_name (λ c. c.name.bytes) (λ cs. length cs ≡ most_statements) u place → IsAbove ps u place
-  PinAbove : have ps PinKind ≡ false → NameAbove (codes "PINS") top_pin new_name (λ p. p.name.bytes) (λ pins. length pins ≡ most_statements) u place → IsAbove ps u place
+  CompAbove : have ps CompKind ≡ false → NameAbove (codes "COMPONENTS") comp new_name (λ c. c.name.bytes) (λ cs. length cs ≡ MAX_COMPS) u place → IsAbove ps u place
+  PinAbove : have ps PinKind ≡ false → NameAbove (codes "PINS") top_pin new_name (λ p. p.name.bytes) (λ pins. length pins ≡ MAX_TOP_PINS) u place → IsAbove ps u place
   SpecialNetAbove : have ps SpecialKind ≡ false → NameAbove (codes "SPECIALNETS") net net_name (λ s. s.name.bytes) (NetsFull (flat_map statements_of ps)) u place → IsAbove ps u place
   NetAbove : have ps NetKind ≡ false → NameAbove (codes "NETS") net net_name (λ s. s.name.bytes) (NetsFull (flat_map statements_of ps)) u place → IsAbove ps u place
   SpecialJointAbove : have ps SpecialKind ≡ false → JointAbove (codes "SPECIALNETS") (flat_map statements_of ps) u place → IsAbove ps u place
@@ -93,8 +94,8 @@ pub record HaveRoom (room : Room) (ns : List Net) : Type 0 where
 
 -- parts that keep the limits
 pub record PartsKeep (ps : List Part) : Type 0 where
-  pub comps : length (flat_map comps_in ps) ≤ most_statements
-  pub pins : length (flat_map pins_in ps) ≤ most_statements
+  pub comps : length (flat_map comps_in ps) ≤ MAX_COMPS
+  pub pins : length (flat_map pins_in ps) ≤ MAX_TOP_PINS
   pub nets : HaveRoom whole_room (flat_map statements_of ps)
 
 -- A law: Limit stands at the name of the first component, top pin or net statement above a limit, or at the bracket of the first joint

@@ -3,11 +3,10 @@
 ghost use Rattle.std.specs.Prelude.{◌≡◌, Some, IfOk};
 ghost use Rattle.eco_text.specs.Cursor.{token};
 ghost use Rattle.eco_def.specs.Parsing.{valued};
-ghost use Rattle.eco_def.specs.Grammar.{most_statements, orient_of, place, comp_clause, comp_place, comp_new_within, comps_within};
-ghost use Rattle.eco_text.specs.Tokens.{is_word};
+ghost use Rattle.eco_def.specs.Grammar.{orient_of, place, comp_clause, comp_place, comp_new_within, comps_within};
 ghost use Rattle.eco_common.specs.KnownNames.{knows, Adds};
 ghost use Rattle.eco_def.specs.View.{comp_in, comps_in};
-ghost use Rattle.eco_def.specs.Reading.{Reads, IsAhead, as_is};
+ghost use Rattle.eco_def.specs.Reading.{Reads, as_is};
 
 use crate::design::Comp;
 use crate::fault::DefFault;
@@ -37,9 +36,9 @@ fn read_orient(bytes: &[u8]) -> Option<Orient>
 
 impl<'a> Reader<'a> {
     fn orient(&mut self) -> Result<Orient, DefFault>
-        ensures { Reads 1 as_is (valued orient_of) self.old self.new result }
+        ensures { Reads 1 as_is (valued orient_of) self.old.words self.new.words result }
     {
-        match read_orient(self.bytes_ahead()) {
+        match read_orient(self.words.bytes_ahead()) {
             Some(orient) => {
                 self.take()?;
                 Ok(orient)
@@ -50,28 +49,31 @@ impl<'a> Reader<'a> {
 
     #[tactic(auto, unfolding(crate::specs::Grammar::place))]
     fn place(&mut self) -> Result<Place, DefFault>
-        ensures { Reads 1 as_is place self.old self.new result }
+        ensures { Reads 1 as_is place self.old.words self.new.words result }
     {
         self.word(b"(")?;
         let x = self.integer()?;
         let y = self.integer()?;
         self.word(b")")?;
         let orient = self.orient()?;
-        let point = Point { x, y };
+        let point = Point {
+            x: i64::from(x),
+            y: i64::from(y),
+        };
         Ok(Place { point, orient })
     }
 
     /// A place, or a word that is passed over.
     #[tactic(auto, unfolding(crate::specs::Grammar::comp_clause, crate::specs::Grammar::some_place))]
     fn comp_clause(&mut self) -> Result<Option<Place>, DefFault>
-        ensures { Reads 1 as_is comp_clause self.old self.new result }
+        ensures { Reads 1 as_is comp_clause self.old.words self.new.words result }
     {
-        if !self.next_is(b"+") {
+        if !self.words.next_is(b"+") {
             self.take()?;
             return Ok(None);
         }
         self.take()?;
-        if !self.next_is_one_of(&[b"PLACED", b"FIXED", b"COVER"]) {
+        if !self.words.next_is_one_of(&[b"PLACED", b"FIXED", b"COVER"]) {
             return Ok(None);
         }
         self.take()?;
@@ -81,10 +83,10 @@ impl<'a> Reader<'a> {
     /// The first place of the clauses up to the end.
     #[tactic(auto, unfolding(crate::specs::Grammar::comp_place))]
     fn comp_place(&mut self) -> Result<Option<Place>, DefFault>
-        ensures { Reads 0 as_is comp_place self.old self.new result }
+        ensures { Reads 0 as_is comp_place self.old.words self.new.words result }
     {
         let mut place = None;
-        'clauses: while self.next_is_not(b";") {
+        'clauses: while self.words.next_is_not(b";") {
             let clause = self.comp_clause()?;
             place = place.or(clause);
         }
@@ -93,8 +95,8 @@ impl<'a> Reader<'a> {
 
     #[tactic(auto, unfolding(crate::specs::Grammar::comp_new_within))]
     fn comp(&mut self, names: &mut Names<'a>, room: bool) -> Result<Comp, DefFault>
-        ensures reads { Reads 1 comp_in (comp_new_within room (knows names.old)) self.old self.new result }
-        ensures names { IfOk result (λ c. Adds names.old names.new (token self.old.text c.name).bytes) }
+        ensures reads { Reads 1 comp_in (comp_new_within room (knows names.old)) self.old.words self.new.words result }
+        ensures names { IfOk result (λ c. Adds names.old names.new (token self.old.words.text c.name).bytes) }
     {
         self.word(b"-")?;
         let name = self.new_name(names, room)?;
@@ -105,11 +107,11 @@ impl<'a> Reader<'a> {
     }
 
     pub fn comps(&mut self, alloc: Global) -> Result<Items<Comp>, DefFault>
-        ensures { Reads 0 comps_in (comps_within (Some most_statements)) self.old self.new result }
+        ensures { Reads 0 comps_in (comps_within (Some MAX_COMPS)) self.old.words self.new.words result }
     {
         let mut names = HashMap::with_capacity(alloc, self.names_likely())?;
         let mut comps = Items::new(alloc);
-        'comps: while self.next_is(b"-") {
+        'comps: while self.words.next_is(b"-") {
             let room = comps.len() < MAX_COMPS;
             let comp = self.comp(&mut names, room)?;
             comps.push(comp)?;

@@ -1,6 +1,6 @@
 //! Passing over parts that aren't read.
 
-ghost use Rattle.std.specs.Prelude.{◌≡◌, ◌&&◌, IfOk, codes};
+ghost use Rattle.std.specs.Prelude.{◌&&◌, IfOk, codes};
 ghost use Rattle.eco_text.specs.Cursor.{token};
 ghost use Rattle.eco_text.specs.Tokens.{is_word};
 ghost use Rattle.eco_def.specs.Parsing.{pass_to, pass_to_both};
@@ -16,9 +16,9 @@ use eco_text::Word;
 impl<'a> Reader<'a> {
     /// The words up to this one, and that one.
     fn pass_to(&mut self, keyword: &[u8]) -> Result<Word, DefFault>
-        ensures { Reads 1 token (pass_to (is_word keyword.now)) self.old self.new result }
+        ensures { Reads 1 token (pass_to (is_word keyword.now)) self.old.words self.new.words result }
     {
-        'words: while self.next_is_not(keyword) {
+        'words: while self.words.next_is_not(keyword) {
             self.take()?;
         }
         self.word(keyword)
@@ -26,11 +26,11 @@ impl<'a> Reader<'a> {
 
     /// The words up to `END` and this one after it, and those two.
     fn pass_to_end(&mut self, keyword: &[u8]) -> Result<Word, DefFault>
-        ensures { Reads 1 token (pass_to_both (is_word (codes "END")) (is_word keyword.now)) self.old self.new result }
+        ensures { Reads 1 token (pass_to_both (is_word (codes "END")) (is_word keyword.now)) self.old.words self.new.words result }
     {
         let mut behind_end = false;
-        'words: while !(behind_end && self.next_is(keyword)) {
-            behind_end = self.next_is(b"END");
+        'words: while !(behind_end && self.words.next_is(keyword)) {
+            behind_end = self.words.next_is(b"END");
             self.take()?;
         }
         self.take()
@@ -38,7 +38,7 @@ impl<'a> Reader<'a> {
 
     /// The words up to this one, such as the `;` of a statement.
     pub fn passed_up_to(&mut self, keyword: &[u8]) -> Result<Part, DefFault>
-        ensures reads { Reads 1 part_in (passed_up_to keyword.now) self.old self.new result }
+        ensures reads { Reads 1 part_in (passed_up_to keyword.now) self.old.words self.new.words result }
         ensures passed { IfOk result IsPassed }
     {
         self.pass_to(keyword)?;
@@ -48,10 +48,10 @@ impl<'a> Reader<'a> {
     /// A section, up to `END` and the word that it begins with.
     #[tactic(auto, unfolding(crate::specs::Grammar::passed_section))]
     pub fn passed_section(&mut self) -> Result<Part, DefFault>
-        ensures reads { Reads 1 part_in passed_section self.old self.new result }
+        ensures reads { Reads 1 part_in passed_section self.old.words self.new.words result }
         ensures passed { IfOk result IsPassed }
     {
-        let heading = self.bytes_ahead();
+        let heading = self.words.bytes_ahead();
         self.take()?;
         self.pass_to_end(heading)?;
         Ok(Part::Passed)

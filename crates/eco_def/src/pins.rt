@@ -1,10 +1,10 @@
 //! Reading PINS.
 
-ghost use Rattle.std.specs.Prelude.{◌≡◌, ℕ, List, IfOk, map, codes, nat_lt, length, Some, None};
+ghost use Rattle.std.specs.Prelude.{◌≡◌, ℕ, List, IfOk, codes, Some, None};
 ghost use Rattle.std.specs.Option.{option_or};
 ghost use Rattle.eco_text.specs.Cursor.{token};
 ghost use Rattle.eco_def.specs.Parsing.{valued, many_until};
-ghost use Rattle.eco_def.specs.Grammar.{dir_of as dir_said, pin_net, pin_dir, pin_use, pin_clause, pin_clauses, most_statements, pin_named, top_pin_new_within, top_pins_within};
+ghost use Rattle.eco_def.specs.Grammar.{dir_of as dir_said, pin_net, pin_dir, pin_use, pin_clause, pin_clauses, pin_named, top_pin_new_within, top_pins_within};
 ghost use Rattle.eco_text.specs.Tokens.{is_word};
 ghost use Rattle.eco_common.specs.KnownNames.{knows, Adds};
 ghost use Rattle.eco_def.specs.View.{pin_in, pins_in, usage_in};
@@ -54,9 +54,9 @@ impl PinClauses {
 
 impl<'a> Reader<'a> {
     fn direction(&mut self) -> Result<Dir, DefFault>
-        ensures { Reads 1 as_is (valued dir_said) self.old self.new result }
+        ensures { Reads 1 as_is (valued dir_said) self.old.words self.new.words result }
     {
-        match read_dir(self.bytes_ahead()) {
+        match read_dir(self.words.bytes_ahead()) {
             Some(dir) => {
                 self.take()?;
                 Ok(dir)
@@ -67,7 +67,7 @@ impl<'a> Reader<'a> {
 
     #[tactic(auto, unfolding(crate::specs::Grammar::pin_net))]
     fn pin_net(&mut self) -> Result<PinClause, DefFault>
-        ensures { Reads 1 clause_in pin_net self.old self.new result }
+        ensures { Reads 1 clause_in pin_net self.old.words self.new.words result }
     {
         self.take()?;
         Ok(PinClause::Net(self.name()?))
@@ -75,7 +75,7 @@ impl<'a> Reader<'a> {
 
     #[tactic(auto, unfolding(crate::specs::Grammar::pin_dir))]
     fn pin_dir(&mut self) -> Result<PinClause, DefFault>
-        ensures { Reads 1 clause_in pin_dir self.old self.new result }
+        ensures { Reads 1 clause_in pin_dir self.old.words self.new.words result }
     {
         self.take()?;
         Ok(PinClause::Direction(self.direction()?))
@@ -84,10 +84,10 @@ impl<'a> Reader<'a> {
     /// `USE` and its word, where that is POWER or GROUND. Any other word is left.
     #[tactic(auto, unfolding(crate::specs::Grammar::pin_use))]
     fn pin_use(&mut self) -> Result<PinClause, DefFault>
-        ensures { Reads 1 clause_in pin_use self.old self.new result }
+        ensures { Reads 1 clause_in pin_use self.old.words self.new.words result }
     {
         self.take()?;
-        if !self.next_is_one_of(&[b"POWER", b"GROUND"]) {
+        if !self.words.next_is_one_of(&[b"POWER", b"GROUND"]) {
             return Ok(PinClause::Use(false));
         }
         self.take()?;
@@ -97,20 +97,20 @@ impl<'a> Reader<'a> {
     /// A clause, or a word that is passed over.
     #[tactic(auto, unfolding(crate::specs::Grammar::pin_clause))]
     fn pin_clause(&mut self) -> Result<PinClause, DefFault>
-        ensures { Reads 1 clause_in pin_clause self.old self.new result }
+        ensures { Reads 1 clause_in pin_clause self.old.words self.new.words result }
     {
-        if !self.next_is(b"+") {
+        if !self.words.next_is(b"+") {
             self.take()?;
             return Ok(PinClause::Other);
         }
         self.take()?;
-        if self.next_is(b"NET") {
+        if self.words.next_is(b"NET") {
             return self.pin_net();
         }
-        if self.next_is(b"DIRECTION") {
+        if self.words.next_is(b"DIRECTION") {
             return self.pin_dir();
         }
-        if self.next_is(b"USE") {
+        if self.words.next_is(b"USE") {
             return self.pin_use();
         }
         Ok(PinClause::Other)
@@ -118,14 +118,14 @@ impl<'a> Reader<'a> {
 
     /// The clauses up to the end.
     fn clauses_to_end(&mut self) -> Result<PinClauses, DefFault>
-        ensures { ReadsClauses (many_until (is_word (codes ";")) (λ before. pin_clause)) self.old self.new result }
+        ensures { ReadsClauses (many_until (is_word (codes ";")) (λ before. pin_clause)) self.old.words self.new.words result }
     {
         let mut kept = PinClauses {
             net: None,
             dir: None,
             supply: None,
         };
-        'clauses: while self.next_is_not(b";") {
+        'clauses: while self.words.next_is_not(b";") {
             let clause = self.pin_clause()?;
             kept.add(clause);
         }
@@ -134,9 +134,9 @@ impl<'a> Reader<'a> {
 
     /// What follows a pin's name: clauses up to the end.
     fn pin_clauses(&mut self) -> Result<PinClauses, DefFault>
-        ensures { ReadsClauses pin_clauses self.old self.new result }
+        ensures { ReadsClauses pin_clauses self.old.words self.new.words result }
     {
-        if !self.next_is_one_of(&[b"+", b";"]) {
+        if !self.words.next_is_one_of(&[b"+", b";"]) {
             return Err(self.bad_statement());
         }
         self.clauses_to_end()
@@ -144,7 +144,7 @@ impl<'a> Reader<'a> {
 
     /// A pin after its name. Its net must be stated.
     fn pin_named(&mut self, name: Word) -> Result<TopPin, DefFault>
-        ensures reads { Reads 0 pin_in (pin_named (token self.old.text name)) self.old self.new result }
+        ensures reads { Reads 0 pin_in (pin_named (token self.old.words.text name)) self.old.words self.new.words result }
         ensures name { IfOk result (λ p. p.name ≡ name) }
     {
         let kept = self.pin_clauses()?;
@@ -161,8 +161,8 @@ impl<'a> Reader<'a> {
 
     #[tactic(auto, unfolding(crate::specs::Grammar::top_pin_new_within))]
     fn top_pin(&mut self, names: &mut Names<'a>, room: bool) -> Result<TopPin, DefFault>
-        ensures reads { Reads 1 pin_in (top_pin_new_within room (knows names.old)) self.old self.new result }
-        ensures names { IfOk result (λ p. Adds names.old names.new (token self.old.text p.name).bytes) }
+        ensures reads { Reads 1 pin_in (top_pin_new_within room (knows names.old)) self.old.words self.new.words result }
+        ensures names { IfOk result (λ p. Adds names.old names.new (token self.old.words.text p.name).bytes) }
     {
         self.word(b"-")?;
         let name = self.new_name(names, room)?;
@@ -172,11 +172,11 @@ impl<'a> Reader<'a> {
     }
 
     pub fn top_pins(&mut self, alloc: Global) -> Result<Items<TopPin>, DefFault>
-        ensures { Reads 0 pins_in (top_pins_within (Some most_statements)) self.old self.new result }
+        ensures { Reads 0 pins_in (top_pins_within (Some MAX_TOP_PINS)) self.old.words self.new.words result }
     {
         let mut names = HashMap::new(alloc);
         let mut pins = Items::new(alloc);
-        'pins: while self.next_is(b"-") {
+        'pins: while self.words.next_is(b"-") {
             let room = pins.len() < MAX_TOP_PINS;
             let pin = self.top_pin(&mut names, room)?;
             pins.push(pin)?;

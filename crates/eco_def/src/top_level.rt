@@ -20,9 +20,9 @@ use std::alloc::Global;
 
 impl<'a> Reader<'a> {
     fn begins_passed_section(&self) -> bool
-        ensures { result ≡ begins (is_one_of passed_sections) (left self.now) }
+        ensures { result ≡ begins (is_one_of passed_sections) (left self.now.words) }
     {
-        self.next_is_one_of(&[
+        self.words.next_is_one_of(&[
             b"PROPERTYDEFINITIONS",
             b"VIAS",
             b"STYLES",
@@ -38,9 +38,9 @@ impl<'a> Reader<'a> {
     }
 
     fn begins_passed_statement(&self) -> bool
-        ensures { result ≡ begins (is_one_of passed_statements) (left self.now) }
+        ensures { result ≡ begins (is_one_of passed_statements) (left self.now.words) }
     {
-        self.next_is_one_of(&[
+        self.words.next_is_one_of(&[
             b"VERSION",
             b"DIVIDERCHAR",
             b"BUSBITCHARS",
@@ -58,7 +58,7 @@ impl<'a> Reader<'a> {
 
     /// The fault of a section that stands a second time.
     fn once(&self, stood: bool) -> Result<(), DefFault>
-        ensures { MatchResult result (λ _. stood ≡ false) (λ e. (stood ≡ true) × (refuse {A = Token} TwiceNamed (left self.now) ≡ Err e)) }
+        ensures { MatchResult result (λ _. stood ≡ false) (λ e. (stood ≡ true) × (refuse {A = Token} TwiceNamed (left self.now.words) ≡ Err e)) }
     {
         if stood {
             return Err(self.twice_named());
@@ -69,26 +69,26 @@ impl<'a> Reader<'a> {
     /// One section or statement.
     #[tactic(auto, unfolding(crate::specs::Grammar::part_new_within))]
     fn part(&mut self, alloc: Global, sections: &Sections) -> Result<Part, DefFault>
-        ensures reads { Reads 1 part_in (part_new_within (Some sections.now.room) (seen_in sections.now)) self.old self.new result }
+        ensures reads { Reads 1 part_in (part_new_within (Some sections.now.room) (seen_in sections.now)) self.old.words self.new.words result }
         ensures fresh { IfOk result (IsFresh sections.now) }
-        ensures lies { IfOk result (PartLies self.old self.new) }
+        ensures lies { IfOk result (PartLies self.old.words self.new.words) }
     {
-        if self.next_is(b"UNITS") {
+        if self.words.next_is(b"UNITS") {
             return self.units();
         }
-        if self.next_is(b"COMPONENTS") {
+        if self.words.next_is(b"COMPONENTS") {
             self.once(sections.comps.is_some())?;
             return Ok(Part::Comps(self.comp_section(alloc)?));
         }
-        if self.next_is(b"PINS") {
+        if self.words.next_is(b"PINS") {
             self.once(sections.pins.is_some())?;
             return Ok(Part::Pins(self.pin_section(alloc)?));
         }
-        if self.next_is(b"SPECIALNETS") {
+        if self.words.next_is(b"SPECIALNETS") {
             self.once(sections.special.is_some())?;
             return Ok(Part::Special(self.special_section(alloc, sections.room)?));
         }
-        if self.next_is(b"NETS") {
+        if self.words.next_is(b"NETS") {
             self.once(sections.nets.is_some())?;
             return Ok(Part::Nets(self.net_section(alloc, sections.room)?));
         }
@@ -98,7 +98,7 @@ impl<'a> Reader<'a> {
         if self.begins_passed_statement() {
             return self.passed_up_to(b";");
         }
-        if self.next_is(b"BEGINEXT") {
+        if self.words.next_is(b"BEGINEXT") {
             return self.passed_up_to(b"ENDEXT");
         }
         Err(self.unknown_heading())
@@ -106,7 +106,7 @@ impl<'a> Reader<'a> {
 
     /// All parts, up to `END` or the end of the text.
     fn sections(&mut self, alloc: Global) -> Result<Sections, DefFault>
-        ensures { ReadsSections self.old self.new result }
+        ensures { ReadsSections self.old.words self.new.words result }
     {
         let mut sections = Sections {
             units: None,
@@ -120,7 +120,7 @@ impl<'a> Reader<'a> {
                 joints: MAX_JOINTS,
             },
         };
-        'parts: while self.next_is_not(b"END") {
+        'parts: while self.words.next_is_not(b"END") {
             let part = self.part(alloc, &sections)?;
             sections.add(part);
         }
@@ -129,10 +129,10 @@ impl<'a> Reader<'a> {
 
     /// `END DESIGN`. Where another word follows `END`, the fault stands at `END`.
     fn end_design(&mut self) -> Result<Word, DefFault>
-        ensures { Reads 1 token end_design self.old self.new result }
+        ensures { Reads 1 token end_design self.old.words self.new.words result }
     {
         let end = self.take()?;
-        if self.next_is(b"DESIGN") {
+        if self.words.next_is(b"DESIGN") {
             return self.take();
         }
         Err(self.unknown_heading_at(end.start))
@@ -140,7 +140,7 @@ impl<'a> Reader<'a> {
 
     /// The design of the words that are left, and its sections.
     pub fn design(&mut self, alloc: Global) -> Result<Sections, DefFault>
-        ensures { ReadsParts self.old self.new result }
+        ensures { ReadsParts self.old.words self.new.words result }
     {
         let sections = self.sections(alloc)?;
         self.end_design()?;

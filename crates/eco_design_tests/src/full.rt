@@ -1,11 +1,11 @@
 //! Designs and their netlists.
 
 use crate::said::{agree, depth_said, nets_said};
-use crate::texts::FUNCTIONS;
 use eco_def::read_def;
 use eco_elaborate::{DesignFault, Macros, list_numbered};
 use eco_func::{Functions, read_functions};
 use eco_net::Netlist;
+use eco_small_base::FUNCTIONS;
 use std::alloc::Global;
 use std::test::Fail;
 

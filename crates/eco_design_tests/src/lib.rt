@@ -5,6 +5,8 @@
 #![tactic(auto)]
 
 #[cfg(test)]
+mod centres;
+#[cfg(test)]
 mod counted;
 #[cfg(test)]
 mod full;
@@ -18,5 +20,3 @@ mod overlay;
 mod places;
 #[cfg(test)]
 mod said;
-#[cfg(test)]
-mod texts;

@@ -1,11 +1,11 @@
 //! Whether masters fit a design and a functions file.
 
 use crate::said::agree;
-use crate::texts::FUNCTIONS;
 use eco_def::read_def;
 use eco_func::{Functions, read_functions};
 use eco_lef::read_lef;
 use eco_master_faults::check_masters;
+use eco_small_base::FUNCTIONS;
 use std::alloc::Global;
 use std::test::Fail;
 

@@ -2,17 +2,18 @@
 
 ghost use Rattle.std.specs.Prelude.{◌<◌, length, IfOk, IfSome};
 ghost use Rattle.eco_lef.specs.Names.{HaveDistinctPins};
+ghost use Rattle.eco_lef.specs.Sizes.{KeepSizes};
 ghost use Rattle.eco_net.specs.declared.ids.PinRef.{PinRef};
 ghost use Rattle.eco_net.specs.Listing.{IsKnownPin};
 
 use crate::full::listed;
 use crate::said::{agree, depth_said, keys_said, nets_said, observables_said, values_said};
-use crate::texts::FUNCTIONS;
 use eco_common::Dir;
 use eco_func::{Functions, read_functions};
 use eco_lef::{Library, read_lef};
 use eco_master_faults::MasterTable;
 use eco_net::{CompId, NetId, Netlist, NetlistMaker, PinRef};
+use eco_small_base::FUNCTIONS;
 use std::alloc::Global;
 use std::test::Fail;
 
@@ -54,8 +55,9 @@ fn valued() -> Parts {
 }
 
 /// The masters of a library.
-fn library(alloc: Global, text: &str) -> Result<Library, Fail>
-    ensures { IfOk result HaveDistinctPins }
+pub fn library(alloc: Global, text: &str) -> Result<Library, Fail>
+    ensures pins { IfOk result HaveDistinctPins }
+    ensures sizes { IfOk result KeepSizes }
 {
     if 10_000 < text.len() {
         return Err("a text that is too long".into());
@@ -73,13 +75,14 @@ fn text_of(alloc: Global, parts: &Parts) -> Result<String, Fail> {
 }
 
 /// The netlist of a design of these masters.
-fn listed_by(
+pub fn listed_by(
     alloc: Global,
     text: &str,
     library: &Library,
     functions: &Functions,
 ) -> Result<Netlist, Fail>
-    requires { HaveDistinctPins library.now }
+    requires pins { HaveDistinctPins library.now }
+    requires sizes { KeepSizes library.now }
 {
     let table = MasterTable::of(alloc, library, functions)?;
     Ok(listed(alloc, text, &table)??)

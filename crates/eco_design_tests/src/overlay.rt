@@ -4,13 +4,13 @@ ghost use Rattle.std.specs.Prelude.{◌≡◌, map};
 ghost use Rattle.std.specs.List.{list_any};
 ghost use Rattle.eco_def.specs.Sections.{IsReadingOf};
 ghost use Rattle.eco_overlay.specs.Overlays.{IsMadeFor};
-ghost use Rattle.eco_overlay.specs.PinMoves.{named_joint, same_pin, are_pins_apart, ArePinsApart};
+ghost use Rattle.eco_overlay.specs.PinMoves.{joint_by_names, same_pin, are_pins_apart, ArePinsApart};
 
 use crate::said::agree;
-use crate::texts::DEF;
 use eco_common::Name;
 use eco_def::{Design, read_def};
 use eco_overlay::{NewJoint, Overlay, emit, emit_len, move_joint};
+use eco_small_base::DEF;
 use eco_text::ByteSink;
 use std::alloc::Global;
 use std::test::Fail;
@@ -108,13 +108,13 @@ fn one_pin_moved_and_all_else_as_it_was(rt: HostRuntime) -> Result<(), Fail> {
 }
 
 fn is_of_pin(joint: &NewJoint, other: &NewJoint) -> bool
-    ensures { result ≡ same_pin (named_joint joint.now) (named_joint other.now) }
+    ensures { result ≡ same_pin (joint_by_names joint.now) (joint_by_names other.now) }
 {
     joint.comp.is(other.comp.bytes()) && joint.pin.is(other.pin.bytes())
 }
 
 fn is_named(joint: &NewJoint, others: &[NewJoint]) -> bool
-    ensures { result ≡ list_any (same_pin (named_joint joint.now)) (map named_joint others.now) }
+    ensures { result ≡ list_any (same_pin (joint_by_names joint.now)) (map joint_by_names others.now) }
 {
     match others {
         [other, rest @ ..] => is_of_pin(joint, other) || is_named(joint, rest),
@@ -124,7 +124,7 @@ fn is_named(joint: &NewJoint, others: &[NewJoint]) -> bool
 
 /// Whether no two joints name the same pin.
 fn are_apart(joints: &[NewJoint]) -> bool
-    ensures { result ≡ are_pins_apart (map named_joint joints.now) }
+    ensures { result ≡ are_pins_apart (map joint_by_names joints.now) }
 {
     match joints {
         [joint, rest @ ..] => !is_named(joint, rest) && are_apart(rest),

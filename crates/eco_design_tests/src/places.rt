@@ -1,10 +1,10 @@
 //! Pins that name nothing, stand on two nets, or are patterns.
 
 use crate::said::agree;
-use crate::texts::FUNCTIONS;
 use eco_def::{Design, read_def};
 use eco_func::{Functions, read_functions};
 use eco_pin_faults::{find_pattern, find_two_nets, find_unknown_pin, tops_agree};
+use eco_small_base::FUNCTIONS;
 use std::alloc::Global;
 use std::test::Fail;
 

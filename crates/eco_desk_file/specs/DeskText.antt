@@ -13,15 +13,15 @@ use Rattle.eco_desk_file.specs.declared.fault.DeskFault.TheVariants.{BadField, M
 use Rattle.eco_desk_file.specs.Desk.{Desk, are_prefixes}
 use Rattle.eco_common.specs.NameBytes.{is_name}
 
--- A reading gives a value, or the first field at fault; what stands behind one without fault.
+-- A reading gives a value, or the first field at fault; a further reading is tried only after one without fault.
 infixl 10 ◌>>=◌
 abbrev pub ◌>>=◌ : {A B : Type 0} → Result A (List ℕ) → (A → Result B (List ℕ)) → Result B (List ℕ)
 Ok x >>= f = f x
 Err field >>= f = Err field
 
-abbrev pub or_fault : {A : Type 0} → List ℕ → Option A → Result A (List ℕ)
-or_fault field None = Err field
-or_fault field (Some x) = Ok x
+abbrev pub or_field : {A : Type 0} → List ℕ → Option A → Result A (List ℕ)
+or_field field None = Err field
+or_field field (Some x) = Ok x
 
 -- the value where it passes the test
 abbrev pub where_it : {A : Type 0} → (A → Bool) → A → Option A
@@ -38,33 +38,33 @@ low_at high ms = option_and_then (where_it (λ low. not (bytes_eq low high))) (n
 abbrev pub prefixes_at : Members → Option (List (List ℕ))
 prefixes_at ms = option_and_then (where_it are_prefixes) (option_and_then texts_of (option_and_then as_array (get_member (codes "spares") ms)))
 
-abbrev pub is_field : List ℕ → Bool
-is_field key = bytes_eq key (codes "tie_high") || bytes_eq key (codes "tie_low") || bytes_eq key (codes "spares")
+abbrev pub is_desk_field : List ℕ → Bool
+is_desk_field key = bytes_eq key (codes "tie_high") || bytes_eq key (codes "tie_low") || bytes_eq key (codes "spares")
 
 -- no field but these three, or the first by bytes (the keys of a document ascend by bytes)
-abbrev pub no_other : Members → Result (Unit {0}) (List ℕ)
-no_other no_members = Ok tt
-no_other (member key d ms) = if is_field key then no_other ms else Err key
+abbrev pub no_other_field : Members → Result (Unit {0}) (List ℕ)
+no_other_field no_members = Ok tt
+no_other_field (member key d ms) = if is_desk_field key then no_other_field ms else Err key
 
 -- The fields are tested in this order: `tie_high`, `tie_low`, `spares`, any other.
 abbrev pub desk_of : Members → Result Desk (List ℕ)
 desk_of ms =
-    or_fault (codes "tie_high") (name_at (codes "tie_high") ms) >>= (λ high.
-    or_fault (codes "tie_low") (low_at high ms) >>= (λ low.
-    or_fault (codes "spares") (prefixes_at ms) >>= (λ prefixes.
-    no_other ms >>= (λ none.
+    or_field (codes "tie_high") (name_at (codes "tie_high") ms) >>= (λ high.
+    or_field (codes "tie_low") (low_at high ms) >>= (λ low.
+    or_field (codes "spares") (prefixes_at ms) >>= (λ prefixes.
+    no_other_field ms >>= (λ none.
     Ok (record { high = high; low = low; prefixes = prefixes })))))
 
--- It is of this field, or want of memory.
-abbrev pub Blames : List ℕ → DeskFault → Type 0
-Blames field (BadField f) = f ≡ field
-Blames field Memory = Unit {0}
+-- It is of this field, or out of memory.
+abbrev pub BlamesField : List ℕ → DeskFault → Type 0
+BlamesField field (BadField f) = f ≡ field
+BlamesField field Memory = Unit {0}
 
--- The reading has this value, or the fault of this field; want of memory may come with any.
-abbrev pub Gives : {A B : Type 0} → (B → A) → Result A (List ℕ) → Result B DeskFault → Type 0
-Gives view said (Ok x) = said ≡ Ok (view x)
-Gives view said (Err (BadField field)) = said ≡ Err field
-Gives view said (Err Memory) = Unit {0}
+-- The reading has this value, or the fault of this field; out of memory may be returned at any time.
+abbrev pub GivesField : {A B : Type 0} → (B → A) → Result A (List ℕ) → Result B DeskFault → Type 0
+GivesField view said (Ok x) = said ≡ Ok (view x)
+GivesField view said (Err (BadField field)) = said ≡ Err field
+GivesField view said (Err Memory) = Unit {0}
 
 -- The text is a TOML document that gives this, or it is none, and the field at fault is `file`.
 abbrev pub Says : List ℕ → Result Desk (List ℕ) → Type 0
@@ -73,7 +73,7 @@ Says text said =
     ⊎ (IsUtf8 text → parse_document text ≡ None) × (said ≡ Err (codes "file"))
 
 -- The text says this desk file, or this field is at fault.
-abbrev pub Reads : List ℕ → Result Desk DeskFault → Type 0
-Reads text (Ok desk) = Says text (Ok desk)
-Reads text (Err (BadField field)) = Says text (Err field)
-Reads text (Err Memory) = Unit {0}
+abbrev pub ReadsDesk : List ℕ → Result Desk DeskFault → Type 0
+ReadsDesk text (Ok desk) = Says text (Ok desk)
+ReadsDesk text (Err (BadField field)) = Says text (Err field)
+ReadsDesk text (Err Memory) = Unit {0}

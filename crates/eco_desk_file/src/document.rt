@@ -7,12 +7,13 @@ ghost use Rattle.toml.specs.View.{view, array_view, table_view};
 ghost use Rattle.eco_func.specs.FunctionsFile.{texts_of};
 ghost use Rattle.eco_common.specs.NameBytes.{is_name as can_be_name};
 ghost use Rattle.eco_desk_file.specs.Desk.{are_prefixes as can_be_prefixes};
-ghost use Rattle.eco_desk_file.specs.DeskText.{Gives, or_fault, name_at as name_said, low_at as low_said, prefixes_at as prefixes_said, is_field as is_field_said, no_other, desk_of as desk_said};
+ghost use Rattle.eco_desk_file.specs.DeskText.{GivesField, or_field, name_at as name_said, low_at as low_said, prefixes_at as prefixes_said, is_desk_field as is_field_said, no_other_field, desk_of as desk_said};
 
 use crate::desk::DeskFile;
 use crate::fault::{DeskFault, bad_field};
 use crate::names::are_prefixes;
 use eco_common::{Memory, Name, is_name};
+use eco_func::texts;
 use std::alloc::Global;
 use toml::Value;
 use toml::value::{Array, Table};
@@ -62,20 +63,6 @@ fn list_at<'a>(document: &'a Table, field: &str) -> Option<&'a Array>
     field_at(document, field)?.as_array()
 }
 
-/// The texts of a list that has nothing else.
-fn texts(alloc: Global, list: &Array) -> Result<Option<Vec<Name>>, Memory>
-    ensures { IfOk result (λ found. option_map (λ names. names.items) found ≡ texts_of (array_view list.now)) }
-{
-    let mut names = Vec::new(alloc);
-    for value in list {
-        match value.as_str() {
-            Some(text) => names.push(Name::of(alloc, text.as_bytes())?)?,
-            None => return Ok(None),
-        }
-    }
-    Ok(Some(names))
-}
-
 /// The texts at the field `spares`.
 fn spare_texts(alloc: Global, document: &Table) -> Result<Option<Vec<Name>>, Memory>
     ensures { IfOk result (λ found. option_map (λ names. names.items) found ≡ option_and_then texts_of (option_and_then as_array (get_member (codes "spares") (table_view document.now)))) }
@@ -94,7 +81,7 @@ fn is_field(key: &str) -> bool
 
 /// The first field that a desk file doesn't have.
 fn other_field(document: &Table) -> Option<&str>
-    ensures { MatchOption result (no_other (table_view document.now) ≡ Ok tt) (λ key. no_other (table_view document.now) ≡ Err key.now) }
+    ensures { MatchOption result (no_other_field (table_view document.now) ≡ Ok tt) (λ key. no_other_field (table_view document.now) ≡ Err key.now) }
 {
     for (key, _) in document {
         if !is_field(key.as_str()) {
@@ -106,7 +93,7 @@ fn other_field(document: &Table) -> Option<&str>
 
 /// The field `tie_high`.
 fn read_high(alloc: Global, document: &Table) -> Result<Name, DeskFault>
-    ensures said { Gives (λ n. n) (or_fault (codes "tie_high") (name_said (codes "tie_high") (table_view document.now))) result }
+    ensures said { GivesField (λ n. n) (or_field (codes "tie_high") (name_said (codes "tie_high") (table_view document.now))) result }
     ensures is_name { IfOk result (λ n. IsTrue (can_be_name n)) }
 {
     match name_at(document, "tie_high") {
@@ -117,7 +104,7 @@ fn read_high(alloc: Global, document: &Table) -> Result<Name, DeskFault>
 
 /// The field `tie_low`.
 fn read_low(alloc: Global, document: &Table, high: &[u8]) -> Result<Name, DeskFault>
-    ensures said { Gives (λ n. n) (or_fault (codes "tie_low") (low_said high.now (table_view document.now))) result }
+    ensures said { GivesField (λ n. n) (or_field (codes "tie_low") (low_said high.now (table_view document.now))) result }
     ensures is_name { IfOk result (λ n. IsTrue (can_be_name n)) }
     ensures other { IfOk result (λ n. IsTrue (not (bytes_eq n high.now))) }
 {
@@ -129,7 +116,7 @@ fn read_low(alloc: Global, document: &Table, high: &[u8]) -> Result<Name, DeskFa
 
 /// The field `spares`.
 fn read_prefixes(alloc: Global, document: &Table) -> Result<Vec<Name>, DeskFault>
-    ensures said { Gives (λ names. names.items) (or_fault (codes "spares") (prefixes_said (table_view document.now))) result }
+    ensures said { GivesField (λ names. names.items) (or_field (codes "spares") (prefixes_said (table_view document.now))) result }
     ensures are_prefixes { IfOk result (λ names. IsTrue (can_be_prefixes names.items)) }
 {
     match spare_texts(alloc, document)? {
@@ -140,7 +127,7 @@ fn read_prefixes(alloc: Global, document: &Table) -> Result<Vec<Name>, DeskFault
 
 /// The desk file of a document, or the first field at fault.
 pub fn desk_of(alloc: Global, document: &Table) -> Result<DeskFile, DeskFault>
-    ensures { Gives (λ desk. desk) (desk_said (table_view document.now)) result }
+    ensures { GivesField (λ desk. desk) (desk_said (table_view document.now)) result }
 {
     let high = read_high(alloc, document)?;
     let low = read_low(alloc, document, high.bytes())?;

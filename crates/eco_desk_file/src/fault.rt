@@ -1,7 +1,7 @@
 //! Why a text is no desk file.
 
 ghost use Rattle.std.specs.Prelude.{◌≡◌};
-ghost use Rattle.eco_desk_file.specs.DeskText.{Blames};
+ghost use Rattle.eco_desk_file.specs.DeskText.{BlamesField};
 ghost use Rattle.eco_desk_file.specs.declared.fault.DeskFault.TheVariants.{Memory as OutOfMemory};
 
 use eco_common::{Memory, Name};
@@ -38,7 +38,7 @@ impl<T: Drop> From<AllocFailed<T>> for DeskFault {
 
 /// The fault of a field.
 pub(crate) fn bad_field(alloc: Global, field: &[u8]) -> DeskFault
-    ensures { Blames field.now result }
+    ensures { BlamesField field.now result }
 {
     match Name::of(alloc, field) {
         Ok(field) => DeskFault::BadField { field },

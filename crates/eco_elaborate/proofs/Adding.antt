@@ -14,12 +14,12 @@ use Rattle.eco_net.specs.declared.kind.Kind.{Kind as Given}
 use Rattle.eco_net.specs.declared.rows.NetRow.{NetRow}
 use Rattle.eco_net.specs.declared.rows.CompRow.{CompRow}
 use Rattle.eco_net.specs.Netlist.{Name, Component, Netlist, pins_of}
-use Rattle.eco_net.specs.Listing.{Listing, netlist, net_names, comp_names, kind_of, AreApart}
+use Rattle.eco_net.specs.Listing.{Listing, netlist, net_names, comp_names, given_kind, AreDistinctNames}
 use Rattle.eco_net.specs.Kept.{IsListing}
 use Rattle.eco_net.proofs.Basics.{Has, contains_from_has, has_from_contains, has_of_map, has_append_left, has_append_right, get_same, get_other, same_Some, not_None}
 use Rattle.eco_net.proofs.Effects.{net_is_added, comp_is_added, net_is}
 use Rattle.eco_net.proofs.Places.{row_of_name}
-use Rattle.eco_elaborate.specs.Netlists.{Kinds}
+use Rattle.eco_elaborate.specs.Netlists.{Kinds, centre_in}
 use Rattle.eco_elaborate.specs.Stages.{NetsAre, AddsNets, IsOffNets, CompsAre, AddsComps}
 use Rattle.eco_elaborate.proofs.Names.{by_bytes_turned, same_name, same_or_other}
 use Rattle.eco_elaborate.proofs.Members.{has_of_append}
@@ -112,19 +112,19 @@ module _ (value : Name → Option Bool) where
 
 -- ---- components
 
-module _ (kinds : Kinds) where
-  pub no_comps_added : (L : Listing) → AddsComps kinds [] L L
+module _ (kinds : Kinds) (units : ℕ) where
+  pub no_comps_added : (L : Listing) → AddsComps kinds units [] L L
   no_comps_added L = record {
-    comps = λ before are. subst (λ cs. CompsAre kinds cs (netlist L)) (sym (append-nil before)) are;
+    comps = λ before are. subst (λ cs. CompsAre kinds units cs (netlist L)) (sym (append-nil before)) are;
     others = refl;
     rows = refl;
     names = sym (append-nil (comp_names L));
     count = omega arith;
   }
 
-  pub comps_added : (xs ys : List NamedComp) (L M N : Listing) → AddsComps kinds xs L M → AddsComps kinds ys M N → AddsComps kinds (xs ++ ys) L N
+  pub comps_added : (xs ys : List NamedComp) (L M N : Listing) → AddsComps kinds units xs L M → AddsComps kinds units ys M N → AddsComps kinds units (xs ++ ys) L N
   comps_added xs ys L M N a b = record {
-    comps = λ before are. subst (λ cs. CompsAre kinds cs (netlist N)) (append_assoc before xs ys) (b.comps (before ++ xs) (a.comps before are));
+    comps = λ before are. subst (λ cs. CompsAre kinds units cs (netlist N)) (append_assoc before xs ys) (b.comps (before ++ xs) (a.comps before are));
     others = b.others ∙ ap (λ (m : Netlist). record m { comps = (netlist N).comps }) a.others;
     rows = b.rows ∙ ap (λ (m : Listing). record m { comps = N.comps }) a.rows;
     names =
@@ -133,39 +133,39 @@ module _ (kinds : Kinds) where
     count = let f = a.count in let g = b.count in omega (arith, length-append xs ys, f, g);
   }
 
-  module _ (L : Listing) (c : NamedComp) (kind : Given) (known : kinds c.model ≡ Some (kind_of kind)) (new : get (netlist L).comps c.name ≡ None) where
+  module _ (L : Listing) (c : NamedComp) (kind : Given) (known : kinds.kind c.model ≡ Some (given_kind kind)) (new : get (netlist L).comps c.name ≡ None) where
     abbrev fresh : Component
-    fresh = record { kind = kind_of kind; place = option_map (λ p. p.point) c.place; joined = empty }
+    fresh = record { kind = given_kind kind; place = centre_in kinds units c; joined = empty }
 
-    off_nets : IsOffNets kinds c fresh
+    off_nets : IsOffNets kinds units c fresh
     off_nets = record { kind = known; place = refl; joined = refl }
 
-    with_one : (before : List NamedComp) → CompsAre kinds before (netlist L) → CompsAre kinds (before ++ c ∷ []) (record (netlist L) { comps = insert (netlist L).comps c.name fresh })
+    with_one : (before : List NamedComp) → CompsAre kinds units before (netlist L) → CompsAre kinds units (before ++ c ∷ []) (record (netlist L) { comps = insert (netlist L).comps c.name fresh })
     with_one before are = record {
       each = λ a h. ⊎_elim (old a) (λ i. ⊎_elim (λ e. this a e) (λ z. absurd z) i) (has_of_append before (c ∷ []) a (has_from_contains (before ++ c ∷ []) a h));
       only = λ n x e. ⊎_elim
-          (λ s. (c, contains_from_has (before ++ c ∷ []) c (has_append_right before (c ∷ []) c (inl refl)), sym s, subst (IsOffNets kinds c) (same_Some (sym (get_same (netlist L).comps c.name fresh) ∙ ap (get (insert (netlist L).comps c.name fresh)) (sym s) ∙ e)) off_nets))
+          (λ s. (c, contains_from_has (before ++ c ∷ []) c (has_append_right before (c ∷ []) c (inl refl)), sym s, subst (IsOffNets kinds units c) (same_Some (sym (get_same (netlist L).comps c.name fresh) ∙ ap (get (insert (netlist L).comps c.name fresh)) (sym s) ∙ e)) off_nets))
           (λ s.
           let a = are.only n x (sym (get_other (netlist L).comps c.name fresh n s) ∙ e) in
           (a.0, contains_from_has (before ++ c ∷ []) a.0 (has_append_left before (c ∷ []) a.0 (has_from_contains before a.0 a.1)), a.2, a.3))
           (same_or_other n c.name);
     }
       where
-        old : (a : NamedComp) → Has before a → (x : Component) × (get (insert (netlist L).comps c.name fresh) a.name ≡ Some x) × IsOffNets kinds a x
+        old : (a : NamedComp) → Has before a → (x : Component) × (get (insert (netlist L).comps c.name fresh) a.name ≡ Some x) × IsOffNets kinds units a x
         old a h =
             let x = are.each a (contains_from_has before a h) in
             (x.0, get_other (netlist L).comps c.name fresh a.name (λ s. not_None (sym x.1 ∙ ap (get (netlist L).comps) s ∙ new)) ∙ x.1, x.2)
 
-        this : (a : NamedComp) → c ≡ a → (x : Component) × (get (insert (netlist L).comps c.name fresh) a.name ≡ Some x) × IsOffNets kinds a x
-        this a e = (fresh, ap (λ z. get (insert (netlist L).comps c.name fresh) z.name) (sym e) ∙ get_same (netlist L).comps c.name fresh, subst (λ z. IsOffNets kinds z fresh) e off_nets)
+        this : (a : NamedComp) → c ≡ a → (x : Component) × (get (insert (netlist L).comps c.name fresh) a.name ≡ Some x) × IsOffNets kinds units a x
+        this a e = (fresh, ap (λ z. get (insert (netlist L).comps c.name fresh) z.name) (sym e) ∙ get_same (netlist L).comps c.name fresh, subst (λ z. IsOffNets kinds units z fresh) e off_nets)
 
-    pub new_comp : IsListing L → (place : Option Point) → place ≡ option_map (λ p. p.point) c.place → (M : Listing) →
-        M ≡ record L { comps = L.comps ++ record { name = c.name; kind = kind; place = place; joined = replicate (length (pins_of (kind_of kind))) None } ∷ [] } → AddsComps kinds (c ∷ []) L M
+    pub new_comp : IsListing L → (place : Option Point) → place ≡ centre_in kinds units c → (M : Listing) →
+        M ≡ record L { comps = L.comps ++ record { name = c.name; kind = kind; place = place; joined = replicate (length (pins_of (given_kind kind))) None } ∷ [] } → AddsComps kinds units (c ∷ []) L M
     new_comp is place placed M e =
         let change : netlist M ≡ record (netlist L) { comps = insert (netlist L).comps c.name fresh } =
-        ap netlist e ∙ comp_is_added L is c.name kind place new ∙ ap (λ p. record (netlist L) { comps = insert (netlist L).comps c.name (record { kind = kind_of kind; place = p; joined = empty }) }) placed in
+        ap netlist e ∙ comp_is_added L is c.name kind place new ∙ ap (λ p. record (netlist L) { comps = insert (netlist L).comps c.name (record { kind = given_kind kind; place = p; joined = empty }) }) placed in
         record {
-          comps = λ before are. subst (CompsAre kinds (before ++ c ∷ [])) (sym change) (with_one before are);
+          comps = λ before are. subst (CompsAre kinds units (before ++ c ∷ [])) (sym change) (with_one before are);
           others = change ∙ ap (λ cs. record (netlist L) { comps = cs }) (sym (ap (λ (m : Netlist). m.comps) change));
           rows = e ∙ ap (λ cs. record L { comps = cs }) (sym (ap (λ (m : Listing). m.comps) e));
           names = ap comp_names e ∙ map-append (λ (r : CompRow). r.name) L.comps (_ ∷ []);
@@ -181,9 +181,9 @@ in_front (x ∷ xs) (suc i) a (inl e) = (0, omega arith, ap Some e)
 in_front (x ∷ xs) (suc i) a (inr h) = let r = in_front xs i a h in (suc r.0, omega (arith, r.1), r.2)
 
 -- a name that stands once isn't that of a component before
-pub name_is_new : {A : Type 0} (kinds : Kinds) (N : Netlist) (f : A → NamedComp) (cs : List A) (i : ℕ) (c : A) → AreApart (map (λ c. (f c).name) cs) → CompsAre kinds (map f (take i cs)) N → slice_get cs i ≡ Some c →
+pub name_is_new : {A : Type 0} (kinds : Kinds) (units : ℕ) (N : Netlist) (f : A → NamedComp) (cs : List A) (i : ℕ) (c : A) → AreDistinctNames (map (λ c. (f c).name) cs) → CompsAre kinds units (map f (take i cs)) N → slice_get cs i ≡ Some c →
     get N.comps (f c).name ≡ None
-name_is_new {A = A} kinds N f cs i c apart are e = none (get N.comps (f c).name) refl
+name_is_new {A = A} kinds units N f cs i c apart are e = none (get N.comps (f c).name) refl
   where
     named : (k : ℕ) (a : A) → slice_get cs k ≡ Some a → slice_get (map (λ c. (f c).name) cs) k ≡ Some (f a).name
     named k a g = slice_get-map (λ c. (f c).name) cs k ∙ ap (option_map (λ c. (f c).name)) g

@@ -7,7 +7,7 @@ use Rattle.std.proofs.lemmas.Option.{slice_get-map}
 use Rattle.std.proofs.lemmas.List.{length_push, length-append, append-nil}
 use Rattle.eco_def.specs.Named.{NamedPin}
 use Rattle.eco_net.specs.Netlist.{Name, Top, Netlist}
-use Rattle.eco_net.specs.Listing.{Listing, netlist, net_name, AreApart}
+use Rattle.eco_net.specs.Listing.{Listing, netlist, net_name, AreDistinctNames}
 use Rattle.eco_net.specs.Changes.{with_top}
 use Rattle.eco_net.proofs.Basics.{contains_from_has, has_from_contains, has_of_map, has_append_left, has_append_right, get_same, get_other, same_Some, not_None}
 use Rattle.eco_elaborate.specs.Netlists.{top_of}
@@ -90,7 +90,7 @@ module _ (L : Listing) (p : NamedPin) where
         }
 
 -- a name that stands once isn't that of a top pin before
-pub top_is_new : {A : Type 0} (N : Netlist) (f : A → NamedPin) (ps : List A) (i : ℕ) (p : A) → AreApart (map (λ p. (f p).name) ps) → TopsAre (map f (take i ps)) N → slice_get ps i ≡ Some p → get N.tops (f p).name ≡ None
+pub top_is_new : {A : Type 0} (N : Netlist) (f : A → NamedPin) (ps : List A) (i : ℕ) (p : A) → AreDistinctNames (map (λ p. (f p).name) ps) → TopsAre (map f (take i ps)) N → slice_get ps i ≡ Some p → get N.tops (f p).name ≡ None
 top_is_new {A = A} N f ps i p apart are e = none (get N.tops (f p).name) refl
   where
     named : (k : ℕ) (a : A) → slice_get ps k ≡ Some a → slice_get (map (λ p. (f p).name) ps) k ≡ Some (f a).name

@@ -11,14 +11,14 @@ use Rattle.std.specs.FinSet as set
 use Rattle.std.proofs.lemmas.Bool.{and_parts, and_from, or_cases, or_left, or_right, true_from_ne_false}
 use Rattle.eco_def.specs.Named.{NamedComp, NamedPin, NamedNet, NamedDesign}
 use Rattle.eco_common.specs.Joints.{NewJoint}
-use Rattle.eco_issued_laws.specs.Changes.{has_statement}
+use Rattle.eco_issued_laws.specs.Changes.{has_statement, has_net, statements}
 use Rattle.eco_net.specs.Netlist.{Name, name_cmp, Kind, Component, Netlist, CompPin, IsNet, IsPin, pins_of}
 use Rattle.eco_net.specs.Drivers.{net_of, joined_at}
 use Rattle.eco_net.proofs.Basics.{Has, contains_from_has, has_from_contains, has_found, has_map, has_of_map, has_append_left, has_append_right, same_Some, not_None}
-use Rattle.eco_elaborate.specs.Netlists.{Kinds, Powers, statements, has_net, supply_by, pin_names}
+use Rattle.eco_elaborate.specs.Netlists.{Kinds, Powers, supply_by, kind_pins}
 use Rattle.eco_elaborate.specs.Described.{IsOn, IsSupply, NamesOnce, IsConsistent, IsNetlistOf}
 use Rattle.eco_net.specs.Joints.{frame, IsRewired, OneNetEach}
-use Rattle.eco_elaborate.specs.Stated.{supply_among, on_net, pins_on, all_pins_on}
+use Rattle.eco_elaborate.specs.Stated.{supply_among, joint_on_net, stated_pins, all_pins_on}
 use Rattle.eco_elaborate.specs.Building.{IsPinOf, IsSupplyPinOf, IsListed, HasUnknownPin, HasPinOnTwo, HasTwoValues}
 use Rattle.eco_elaborate.specs.Stages.{agree, keeps_value, NetsAre, CompsAre, TopsAre, IsUnknownJoint, has_pin, known_pins, has_supply_pin}
 use Rattle.eco_elaborate.proofs.Names.{same_name, is_name}
@@ -104,25 +104,25 @@ module _ (kinds : Kinds) (powers : Powers) (d : NamedDesign) (ss : List NamedNet
       has_any (λ (a : NamedComp). bytes_eq a.name c && powers a.model p) d.comps is.of (has_from_contains d.comps is.of is.found)
       (and_from (bytes_eq is.of.name c) (powers is.of.model p) (is_name is.of.name c is.same) is.supply)
 
-  module _ (M : Netlist) (comps : CompsAre kinds d.comps M) where
+  module _ (M : Netlist) (comps : CompsAre kinds d.units d.comps M) where
     -- ---- known pins
 
     -- a pin of a component of the netlist is one of a component of the design
     known_pin : (c p : Name) (x : Component) → get M.comps c ≡ Some x → IsPin x p → IsPinOf kinds d c p
     known_pin c p x e pin =
         let a = comps.only c x e in
-        record { of = a.0; kind = x.kind; found = a.1; same = a.2; known = a.3.kind; has = contains_from_has (pin_names x.kind) p (has_found (pins_of x.kind) p pin.0 pin.1) }
+        record { of = a.0; kind = x.kind; found = a.1; same = a.2; known = a.3.kind; has = contains_from_has (kind_pins x.kind) p (has_found (pins_of x.kind) p pin.0 pin.1) }
 
     pin_known : (c p : Name) → IsPinOf kinds d c p → (x : Component) × (get M.comps c ≡ Some x) × IsPin x p
     pin_known c p is =
         let x = comps.each is.of is.found in
-        let r = has_role is.kind p (has_from_contains (pin_names is.kind) p is.has) in
+        let r = has_role is.kind p (has_from_contains (kind_pins is.kind) p is.has) in
         let kind : is.kind ≡ x.0.kind = same_Some (sym is.known ∙ x.2.kind) in
         (x.0, ap (get M.comps) (sym is.same) ∙ x.1, (r.0, ap (λ k. fin.find name_cmp p (pins_of k)) (sym kind) ∙ r.1))
 
     pub unknown_pin : (j : NewJoint) → Has (all_pins_on ss) j → IsUnknownJoint (has_supply_pin powers d.comps) M j.comp j.pin → HasUnknownPin kinds powers d
     unknown_pin j h none =
-        let s = of_flat_map pins_on ss j h in
+        let s = of_flat_map stated_pins ss j h in
         let i = of_pins s.0 j s.2 in
         let comp : i.0.comp ≡ j.comp = ap (λ k. k.comp) i.3 in
         let pin : i.0.pin ≡ j.pin = ap (λ k. k.pin) i.3 in (
@@ -296,7 +296,7 @@ module _ (kinds : Kinds) (powers : Powers) (d : NamedDesign) (ss : List NamedNet
             ⊎_elim
             (λ t. let x = known_is_pin M j.comp j.pin t in inl (known_pin j.comp j.pin x.0 x.1 x.2))
             (λ t. inr (supply_pin j.comp j.pin t))
-            (known (on_net s.name j) (in_flat_map pins_on ss s (on_net s.name j) (to s (has_from_contains (statements d) s h)) on));
+            (known (joint_on_net s.name j) (in_flat_map stated_pins ss s (joint_on_net s.name j) (to s (has_from_contains (statements d) s h)) on));
         one_net = one_net one;
         consistent = consistent;
         netlist = (netlist_is kinds [] d consistent N).0 told;

@@ -1,21 +1,23 @@
 -- The netlist of a small design, and of the design where one of its spares has become a gate, by computing the definitions.
-use Rattle.std.proofs.Common.{◌≡◌, Bool, true, false, not, ◌&&◌, ◌||◌, map, List, [], ◌∷◌, Option, Some, None, refl, sym, ap, ◌∙◌, subst, inl, inr, ⊎_elim, ◌⊎◌, codes, pos, if◌then◌else◌, true≢false}
+use Rattle.std.proofs.Common.{◌≡◌, Bool, true, false, not, ◌&&◌, ◌||◌, map, List, [], ◌∷◌, Option, Some, None, refl, sym, ap, ◌∙◌, subst, inl, inr, ⊎_elim, ◌⊎◌, codes, pos, neg_ℤ, if◌then◌else◌, true≢false}
 use Rattle.std.specs.List.{list_all, list_any, Contains}
 use Rattle.std.specs.Str.{bytes_eq}
 use Rattle.std.specs.FinMap.{get, from_entries}
 use Rattle.std.specs.FinSet.{from_list, empty}
 use Rattle.std.proofs.lemmas.Bool.{and_parts, and_from, or_cases}
+use Rattle.eco_common.specs.declared.geometry.Size.{Size}
 use Rattle.eco_common.specs.declared.geometry.Dir.{Dir}
 use Rattle.eco_common.specs.declared.geometry.Dir.TheVariants.{Input, Output, Inout}
 use Rattle.eco_common.specs.declared.geometry.Point.{Point}
-use Rattle.eco_def.specs.declared.orient.Orient.TheVariants.{N}
+use Rattle.eco_def.specs.declared.orient.Orient.TheVariants.{N, FS, FE}
 use Rattle.eco_def.specs.Named.{NamedComp, NamedPin, NamedJoint, NamedNet, NamedDesign}
 use Rattle.eco_common.specs.Joints.{NewJoint}
-use Rattle.eco_issued_laws.specs.Changes.{is_no_component, changes_of}
+use Rattle.eco_issued_laws.specs.Changes.{is_no_component, changes_of, statements}
 use Rattle.eco_issued_laws.specs.Issued.{issued_design}
-use Rattle.eco_net.specs.Netlist.{Name, Kind, Gate, Boxed, Component, Netlist, Role, Reads, Computes, role_of, IsNet, IsPin}
+use Rattle.eco_net.specs.Netlist.{Name, Kind, Gate, Boxed, Component, Netlist, Role, GateInput, GateOutput, role_of, IsNet, IsPin}
 use Rattle.eco_net.proofs.Basics.{Has, contains_from_has, has_from_contains, has_map, same_Some}
-use Rattle.eco_elaborate.specs.Netlists.{Kinds, statements, names_pin, supply_by, netlist_of}
+use Rattle.eco_elaborate.specs.Centres.{doubled_centre}
+use Rattle.eco_elaborate.specs.Netlists.{Kinds, names_pin, supply_by, netlist_of}
 use Rattle.eco_elaborate.specs.Described.{IsOn, IsSupply, IsConsistent}
 use Rattle.eco_net.specs.Joints.{with_joints, OneNetEach}
 use Rattle.eco_elaborate.specs.Joinable.{CanJoin}
@@ -39,7 +41,7 @@ abbrev on : Name → Name → Name → NewJoint
 on comp pin net = record { comp = comp; pin = pin; net = net }
 
 abbrev point : Option Point
-point = Some (record { x = pos 1000; y = pos 2000 })
+point = Some (record { x = pos 3200; y = pos 6801 })
 
 abbrev placed : Name → Name → NamedComp
 placed name model = record { name = name; model = model; place = Some (record { point = record { x = pos 1000; y = pos 2000 }; orient = N }) }
@@ -55,8 +57,19 @@ nand2 = Gate (codes "A" ∷ codes "B" ∷ []) ((codes "Y", true ∷ true ∷ tru
 abbrev inv : Kind
 inv = Gate (codes "A" ∷ []) ((codes "Y", true ∷ false ∷ []) ∷ [])
 
+-- 1.2 microns by 2.8015; the last digits are no whole unit
+abbrev size : Size
+size = record { width = 1200000; height = 2801500 }
+
+-- the corner of a box at 1000 2000, which lies as it is drawn and on its side, and its doubled centre
+upright : doubled_centre 1000 size (record { point = record { x = pos 1000; y = pos 2000 }; orient = FS }) ≡ record { x = pos 3200; y = pos 6801 }
+upright = refl
+
+on_its_side : doubled_centre 1000 size (record { point = record { x = pos 1000; y = neg_ℤ (pos 2000) }; orient = FE }) ≡ record { x = pos 4801; y = neg_ℤ (pos 2800) }
+on_its_side = refl
+
 abbrev kinds : Kinds
-kinds model = if bytes_eq model (codes "NAND2") then Some nand2 else (if bytes_eq model (codes "INV") then Some inv else None)
+kinds = record { kind = λ model. if bytes_eq model (codes "NAND2") then Some nand2 else (if bytes_eq model (codes "INV") then Some inv else None); size = λ model. size }
 
 abbrev ties : List Name
 ties = codes "VDD" ∷ codes "VSS" ∷ []
@@ -152,12 +165,12 @@ spare_pin : (r : Role) (p n : Name) → role_of (component nand2 ((codes "A", co
 spare_pin r p n e = (component nand2 ((codes "A", codes "VSS") ∷ (codes "B", codes "VSS") ∷ []), comp_is kinds ties d (codes "SP_1"), (r, e))
 
 reader_pin : HasPin (on (codes "u2") (codes "A") (codes "m1"))
-reader_pin = (component inv ((codes "A", codes "n1") ∷ (codes "Y", codes "n2") ∷ []), comp_is kinds ties d (codes "u2"), (Reads, refl))
+reader_pin = (component inv ((codes "A", codes "n1") ∷ (codes "Y", codes "n2") ∷ []), comp_is kinds ties d (codes "u2"), (GateInput, refl))
 
 each_pin : (j : NewJoint) → Has joints j → HasPin j
-each_pin j (inl e) = subst HasPin e (spare_pin Reads (codes "A") (codes "VDD") refl)
-each_pin j (inr (inl e)) = subst HasPin e (spare_pin Reads (codes "B") (codes "a") refl)
-each_pin j (inr (inr (inl e))) = subst HasPin e (spare_pin (Computes (true ∷ true ∷ true ∷ false ∷ [])) (codes "Y") (codes "m1") refl)
+each_pin j (inl e) = subst HasPin e (spare_pin GateInput (codes "A") (codes "VDD") refl)
+each_pin j (inr (inl e)) = subst HasPin e (spare_pin GateInput (codes "B") (codes "a") refl)
+each_pin j (inr (inr (inl e))) = subst HasPin e (spare_pin (GateOutput (true ∷ true ∷ true ∷ false ∷ [])) (codes "Y") (codes "m1") refl)
 each_pin j (inr (inr (inr (inl e)))) = subst HasPin e reader_pin
 each_pin j (inr (inr (inr (inr h)))) = absurd h
 
@@ -198,7 +211,7 @@ abbrev register : Kind
 register = Boxed ((codes "D", Input) ∷ (codes "CK", Input) ∷ (codes "Q", Output) ∷ [])
 
 abbrev more_kinds : Kinds
-more_kinds model = if bytes_eq model (codes "DFF") then Some register else kinds model
+more_kinds = record { kind = λ model. if bytes_eq model (codes "DFF") then Some register else kinds.kind model; size = λ model. size }
 
 abbrev top : Name → Name → Dir → Bool → NamedPin
 top name net dir supply = record { name = name; net = net; dir = dir; supply = supply }

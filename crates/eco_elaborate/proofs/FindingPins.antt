@@ -21,7 +21,7 @@ use Rattle.eco_net.specs.declared.ids.FoundComp.{FoundComp}
 use Rattle.eco_net.specs.declared.rows.CompRow.{CompRow}
 use Rattle.eco_net.specs.declared.rows.NetRow.{NetRow}
 use Rattle.eco_net.specs.Netlist.{Name, Role, Component, Netlist, IsPin, role_of}
-use Rattle.eco_net.specs.Listing.{Listing, netlist, component, comp_names, net_names, net_name, pins, HasPin, FindsPin, FindsComp, AreApart}
+use Rattle.eco_net.specs.Listing.{Listing, netlist, component, comp_names, net_names, net_name, pins, HasPin, FindsPin, FindsComp, AreDistinctNames}
 use Rattle.eco_net.specs.Kept.{IsListing}
 use Rattle.eco_net.proofs.Basics.{Has, contains_from_has, has_from_contains, has_map, has_found, same_Some, not_None}
 use Rattle.eco_net.proofs.Effects.{comp_is, role_is, pin_row}
@@ -29,8 +29,8 @@ use Rattle.eco_net.proofs.Places.{row_of_name}
 use Rattle.eco_elaborate.specs.declared.fault.DesignFault.{DesignFault}
 use Rattle.eco_elaborate.specs.declared.fault.DesignFault.TheVariants.{UnknownMacro, UnknownPin, PinNetDiffers, SupplyDiffers, Memory}
 use Rattle.eco_elaborate.specs.declared.joined_pin.JoinedPin.{JoinedPin}
-use Rattle.eco_elaborate.specs.Stated.{named_comp, named_comps, named_joint, named_net, named_nets, on_net, pins_among, pins_on, all_pins_on}
-use Rattle.eco_elaborate.specs.Stages.{comp_name, pin_name, joint_of, joints_of, IsKnownJoint, FindsPinOf, FindsJoint, IsUnknownJoint, has_pin, known_pins, has_supply_pin, FindsPins, PinFault}
+use Rattle.eco_elaborate.specs.Stated.{named_comp, named_comps, named_joint, named_net, named_nets, joint_on_net, pins_among, stated_pins, all_pins_on}
+use Rattle.eco_elaborate.specs.Stages.{row_name, pin_name, joint_of, joints_of, IsKnownJoint, FindsPinOf, FindsJoint, IsUnknownJoint, has_pin, known_pins, has_supply_pin, FindsPins, PinFault}
 use Rattle.eco_elaborate.specs.Netlists.{Powers}
 use Rattle.eco_elaborate.proofs.Names.{same_name, is_name}
 use Rattle.eco_elaborate.proofs.Members.{has_of_append, any_has, has_any}
@@ -49,19 +49,19 @@ module _ (L : Listing) (is : IsListing L) (c : ℕ) (comp pin : Name) (e : slice
       let q : IsPin (component L.nets r.0) pin = subst (λ (z : Component). IsPin z pin) (sym same) p in
       none (contains_from_has (map (λ p. p.0) (pins r.0)) pin (has_found (pins r.0) pin q.0 q.1))
 
-  pub some_found : (k : ℕ) → FindsPin (slice_get L.comps c) pin (Some k) → HasPin (slice_get L.comps c) k × (comp_name (slice_get L.comps c) ≡ comp) × (pin_name (slice_get L.comps c) k ≡ pin)
+  pub some_found : (k : ℕ) → FindsPin (slice_get L.comps c) pin (Some k) → HasPin (slice_get L.comps c) k × (row_name (slice_get L.comps c) ≡ comp) × (pin_name (slice_get L.comps c) k ≡ pin)
   some_found k f =
       let r = row_of_name (λ (r : CompRow). r.name) L.comps c comp e in
       let at : slice_get (map (λ p. p.0) (pins r.0)) k ≡ Some pin = subst (λ o. FindsPin o pin (Some k)) r.1 f in
       let has : k < length (pins r.0) = omega (arith, slice_get_within (map (λ p. p.0) (pins r.0)) k pin at, length-map (pins r.0) (λ p. p.0)) in
-      subst (λ o. HasPin o k × (comp_name o ≡ comp) × (pin_name o k ≡ pin)) (sym r.1)
+      subst (λ o. HasPin o k × (row_name o ≡ comp) × (pin_name o k ≡ pin)) (sym r.1)
       (has, r.2, ap (λ o. unwrap_or o []) (sym (slice_get-map (λ p. p.0) (pins r.0) k) ∙ at))
 
 -- a known pin is one of a component
 pub known_joint : (L : Listing) → IsListing L → (p : JoinedPin) → IsKnownJoint L p → (x : Component) × (get (netlist L).comps (joint_of L p).comp ≡ Some x) × IsPin x (joint_of L p).pin
 known_joint L is p known =
     let w = pin_row L is p.comp.0 p.pin known.0 in
-    let comp : (joint_of L p).comp ≡ w.row.name = ap comp_name w.is in
+    let comp : (joint_of L p).comp ≡ w.row.name = ap row_name w.is in
     let pin : (joint_of L p).pin ≡ w.pin.0 = ap (λ o. pin_name o p.pin) w.is ∙ ap (λ o. unwrap_or (option_map (λ (q : Name × _). q.0) o) []) w.at in (
       component L.nets w.row,
       ap (get (netlist L).comps) comp ∙ comp_is L is p.comp.0 w.row w.is,
@@ -114,7 +114,7 @@ has_got (x ∷ xs) (suc k) a e = inr (has_got xs k a e)
 
 module _ (powers : Powers) (cs : List NamedComp) (comp pin : Name) where
   -- where names stand once, a component's supply pins are those of its macro
-  pub supply_at : AreApart (map (λ c. c.name) cs) → (i : ℕ) (c : NamedComp) → slice_get cs i ≡ Some c → c.name ≡ comp → has_supply_pin powers cs comp pin ≡ powers c.model pin
+  pub supply_at : AreDistinctNames (map (λ c. c.name) cs) → (i : ℕ) (c : NamedComp) → slice_get cs i ≡ Some c → c.name ≡ comp → has_supply_pin powers cs comp pin ≡ powers c.model pin
   supply_at apart i c e named = both_or_none (has_supply_pin powers cs comp pin) (powers c.model pin) to from
     where
       at : (k : ℕ) (a : NamedComp) → slice_get cs k ≡ Some a → a.name ≡ comp → slice_get (map (λ (c : NamedComp). c.name) cs) k ≡ Some comp
@@ -160,7 +160,7 @@ supply_numbered powers L is text comps comp pin i numbers e =
     let names : length (map (λ (c : NamedComp). c.name) cs) ≡ length cs = length-map cs (λ (c : NamedComp). c.name) in
     let all : length cs ≡ length comps = length-map comps (named_comp text) in
     let got : slice_get cs i ≡ Some c = slice_get-map (named_comp text) comps i ∙ ap (option_map (named_comp text)) (slice_get-get_or comps i no_comp (omega (arith, within, names, all))) in
-    supply_at powers cs comp pin (subst AreApart numbers is.comps) i c got (same_Some (sym (slice_get-map (λ (c : NamedComp). c.name) cs i ∙ ap (option_map (λ (c : NamedComp). c.name)) got) ∙ at))
+    supply_at powers cs comp pin (subst AreDistinctNames numbers is.comps) i c got (same_Some (sym (slice_get-map (λ (c : NamedComp). c.name) cs i ∙ ap (option_map (λ (c : NamedComp). c.name)) got) ∙ at))
 
 -- ---- one joint
 
@@ -180,11 +180,11 @@ pub unknown_joint : (powered : Name → Name → Bool) (L : Listing) (comp pin :
 unknown_joint powered L comp pin None f e g = record { no_pin = f; no_supply = g }
 unknown_joint powered L comp pin (Some k) f e g = absurd (true≢false e)
 
-one_pin : (n : Name) (j : NamedJoint) → is_no_component j.comp ≡ false → pins_among n (j ∷ []) ≡ on_net n j ∷ []
-one_pin n j e = ap (λ b. map (on_net n) (cond (not b) (j ∷ []) [])) e
+one_pin : (n : Name) (j : NamedJoint) → is_no_component j.comp ≡ false → pins_among n (j ∷ []) ≡ joint_on_net n j ∷ []
+one_pin n j e = ap (λ b. map (joint_on_net n) (cond (not b) (j ∷ []) [])) e
 
 no_pin : (n : Name) (j : NamedJoint) → is_no_component j.comp ≡ true → pins_among n (j ∷ []) ≡ []
-no_pin n j e = ap (λ b. map (on_net n) (cond (not b) (j ∷ []) [])) e
+no_pin n j e = ap (λ b. map (joint_on_net n) (cond (not b) (j ∷ []) [])) e
 
 alone : (j k : NewJoint) → Contains (j ∷ []) k → j ≡ k
 alone j k h = ⊎_elim (λ e. e) (λ z. absurd z) (has_from_contains (j ∷ []) k h)
@@ -242,8 +242,8 @@ module _ (powered : Name → Name → Bool) where
 
 pub pins_among-append : (n : Name) (xs ys : List NamedJoint) → pins_among n (xs ++ ys) ≡ pins_among n xs ++ pins_among n ys
 pins_among-append n xs ys =
-    ap (map (on_net n)) (filter-append (λ (j : NamedJoint). not (is_no_component j.comp)) xs ys)
-    ∙ map-append (on_net n) (filter (λ j. not (is_no_component j.comp)) xs) (filter (λ j. not (is_no_component j.comp)) ys)
+    ap (map (joint_on_net n)) (filter-append (λ (j : NamedJoint). not (is_no_component j.comp)) xs ys)
+    ∙ map-append (joint_on_net n) (filter (λ j. not (is_no_component j.comp)) xs) (filter (λ j. not (is_no_component j.comp)) ys)
 
 -- ---- statements
 
@@ -258,7 +258,7 @@ number_named L i n e = ap (λ o. unwrap_or o []) (sym (slice_get-map (λ (r : Ne
 pub number_within : (L : Listing) (i : ℕ) (n : Name) → slice_get (net_names L) i ≡ Some n → i < length L.nets
 number_within L i n e = omega (arith, slice_get_within (net_names L) i n e, length-map L.nets (λ (r : NetRow). r.name))
 
-pub statement_pins : (text : List ℕ) (s : NetStatement) (n : Name) (js : List Joint) → n ≡ (named_net text s).name → js ≡ s.joints → pins_among n (map (named_joint text) js) ≡ pins_on (named_net text s)
+pub statement_pins : (text : List ℕ) (s : NetStatement) (n : Name) (js : List Joint) → n ≡ (named_net text s).name → js ≡ s.joints → pins_among n (map (named_joint text) js) ≡ stated_pins (named_net text s)
 statement_pins text s n js e f =
     ap (λ m. pins_among m (map (named_joint text) js)) e
     ∙ ap (λ ks. pins_among (named_net text s).name (map (named_joint text) ks)) f
@@ -282,8 +282,8 @@ has_of_take (y ∷ ys) (suc i) x (inl e) = inl e
 has_of_take (y ∷ ys) (suc i) x (inr h) = inr (has_of_take ys i x h)
 
 pub all_pins_more : (text : List ℕ) (ss : List NetStatement) (i : ℕ) (s : NetStatement) → i < length ss → s ≡ get_or ss i s →
-    all_pins_on (named_nets text (take (i + 1) ss)) ≡ all_pins_on (named_nets text (take i ss)) ++ pins_on (named_net text s)
+    all_pins_on (named_nets text (take (i + 1) ss)) ≡ all_pins_on (named_nets text (take i ss)) ++ stated_pins (named_net text s)
 all_pins_more text ss i s h e =
     ap all_pins_on (mapped_more (named_net text) ss i s h e)
-    ∙ flat_map-append pins_on (named_nets text (take i ss)) (named_net text s ∷ [])
-    ∙ ap (λ js. all_pins_on (named_nets text (take i ss)) ++ js) (append-nil (pins_on (named_net text s)))
+    ∙ flat_map-append stated_pins (named_nets text (take i ss)) (named_net text s ∷ [])
+    ∙ ap (λ js. all_pins_on (named_nets text (take i ss)) ++ js) (append-nil (stated_pins (named_net text s)))

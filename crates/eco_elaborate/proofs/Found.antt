@@ -7,10 +7,10 @@ use Rattle.std.specs.FinMap.{get}
 use Rattle.std.proofs.lemmas.Bool.{and_parts, and_from, or_left}
 use Rattle.eco_common.specs.Options.{first_some}
 use Rattle.eco_def.specs.Named.{NamedComp, NamedPin, NamedNet, NamedDesign}
-use Rattle.eco_issued_laws.specs.Changes.{has_statement}
+use Rattle.eco_issued_laws.specs.Changes.{has_statement, has_net, statements}
 use Rattle.eco_net.specs.Netlist.{Name, Kind, Component, Top, Netlist}
 use Rattle.eco_net.proofs.Basics.{Has, contains_from_has, has_from_contains, same_Some, not_None}
-use Rattle.eco_elaborate.specs.Netlists.{Kinds, statements, has_net, supply_by, supply_in, has_joint, net_of_pin, component_in, known_comps, top_of, netlist_of}
+use Rattle.eco_elaborate.specs.Netlists.{Kinds, supply_by, net_supply, has_joint, net_of_pin, component_in, known_comps, top_of, netlist_of}
 use Rattle.eco_elaborate.specs.Described.{IsOn, IsSupply}
 use Rattle.eco_elaborate.proofs.Names.{same_name, is_name}
 use Rattle.eco_elaborate.proofs.Members.{any_has, has_any, of_filter, in_filter, found_passes, passes_found, of_filter_map, in_filter_map}
@@ -52,7 +52,7 @@ module _ (kinds : Kinds) (ties : List Name) (d : NamedDesign) where
       let r = supply_found (statements d) n b (go (has_net d n) (sym (net_is kinds ties d n) ∙ e)) in
       (r.0, contains_from_has (statements d) r.0 r.1, r.2, r.3)
     where
-      go : (t : Bool) → cond t (Some (supply_in d n)) None ≡ Some (Some b) → supply_in d n ≡ Some b
+      go : (t : Bool) → cond t (Some (net_supply d n)) None ≡ Some (Some b) → net_supply d n ≡ Some b
       go true f = same_Some f
       go false f = absurd (not_None (sym f))
 
@@ -62,39 +62,39 @@ module _ (kinds : Kinds) (ties : List Name) (d : NamedDesign) where
       let h = has_from_contains (statements d) s.0 s.1 in
       let a = supply_stands (statements d) n s.0 b h s.2 s.3 in
       let known = or_left (has_statement (statements d) n) _ (has_any (λ s. bytes_eq s.name n) (statements d) s.0 h (is_name s.0.name n s.2)) in
-      let found : get N.nets n ≡ Some (Some a.0) = net_is kinds ties d n ∙ ap (λ b. cond b (Some (supply_in d n)) None) known ∙ ap Some a.1 in
+      let found : get N.nets n ≡ Some (Some a.0) = net_is kinds ties d n ∙ ap (λ b. cond b (Some (net_supply d n)) None) known ∙ ap Some a.1 in
       found ∙ ap (λ b. Some (Some b)) (one a.0 (supply_said n a.0 found))
 
   -- ---- components
 
   abbrev IsNamed : NamedComp × Kind → Name → Type 0
-  IsNamed x c = Has d.comps x.0 × (x.0.name ≡ c) × (kinds x.0.model ≡ Some x.1)
+  IsNamed x c = Has d.comps x.0 × (x.0.name ≡ c) × (kinds.kind x.0.model ≡ Some x.1)
 
-  known_is : (a : NamedComp) (x : NamedComp × Kind) (o : Option Kind) → kinds a.model ≡ o → option_map (λ k. (a, k)) o ≡ Some x → (x.0 ≡ a) × (kinds a.model ≡ Some x.1)
+  known_is : (a : NamedComp) (x : NamedComp × Kind) (o : Option Kind) → kinds.kind a.model ≡ o → option_map (λ k. (a, k)) o ≡ Some x → (x.0 ≡ a) × (kinds.kind a.model ≡ Some x.1)
   known_is a x None e f = absurd (not_None (sym f))
   known_is a x (Some k) e f = let s = same_Some f in (ap (λ z. z.0) (sym s), e ∙ ap (λ z. Some z.1) s)
 
   pub named_by : (c : Name) (x : NamedComp × Kind) → find (λ x. bytes_eq x.0.name c) (known_comps kinds d) ≡ Some x → IsNamed x c
   named_by c x e =
       let r = found_passes (λ x. bytes_eq x.0.name c) (known_comps kinds d) x e in
-      let a = of_filter_map (λ c. option_map (λ k. (c, k)) (kinds c.model)) d.comps x r.0 in
-      let k = known_is a.0 x (kinds a.0.model) refl a.2 in
-      (subst (Has d.comps) (sym k.0) a.1, same_name x.0.name c r.1, ap (λ z. kinds z.model) k.0 ∙ k.1)
+      let a = of_filter_map (λ c. option_map (λ k. (c, k)) (kinds.kind c.model)) d.comps x r.0 in
+      let k = known_is a.0 x (kinds.kind a.0.model) refl a.2 in
+      (subst (Has d.comps) (sym k.0) a.1, same_name x.0.name c r.1, ap (λ z. kinds.kind z.model) k.0 ∙ k.1)
 
   -- a component of the netlist is one of the design
-  pub comp_said : (c : Name) (x : Component) → get N.comps c ≡ Some x → (y : NamedComp × Kind) × Has d.comps y.0 × (y.0.name ≡ c) × (kinds y.0.model ≡ Some y.1) × (component_in d y.0 y.1 ≡ x)
+  pub comp_said : (c : Name) (x : Component) → get N.comps c ≡ Some x → (y : NamedComp × Kind) × Has d.comps y.0 × (y.0.name ≡ c) × (kinds.kind y.0.model ≡ Some y.1) × (component_in kinds d y.0 y.1 ≡ x)
   comp_said c x e = go (find (λ x. bytes_eq x.0.name c) (known_comps kinds d)) refl (sym (comp_is kinds ties d c) ∙ e)
     where
-      go : (o : Option (NamedComp × Kind)) → find (λ x. bytes_eq x.0.name c) (known_comps kinds d) ≡ o → option_map (λ y. component_in d y.0 y.1) o ≡ Some x →
-          (y : NamedComp × Kind) × Has d.comps y.0 × (y.0.name ≡ c) × (kinds y.0.model ≡ Some y.1) × (component_in d y.0 y.1 ≡ x)
+      go : (o : Option (NamedComp × Kind)) → find (λ x. bytes_eq x.0.name c) (known_comps kinds d) ≡ o → option_map (λ y. component_in kinds d y.0 y.1) o ≡ Some x →
+          (y : NamedComp × Kind) × Has d.comps y.0 × (y.0.name ≡ c) × (kinds.kind y.0.model ≡ Some y.1) × (component_in kinds d y.0 y.1 ≡ x)
       go None f g = absurd (not_None (sym g))
       go (Some y) f g = let r = named_by c y f in (y, r.0, r.1, r.2, same_Some g)
 
-  pub said_comp : (a : NamedComp) (k : Kind) → Has d.comps a → kinds a.model ≡ Some k → (x : Component) × (get N.comps a.name ≡ Some x)
+  pub said_comp : (a : NamedComp) (k : Kind) → Has d.comps a → kinds.kind a.model ≡ Some k → (x : Component) × (get N.comps a.name ≡ Some x)
   said_comp a k h e =
-      let i = in_filter_map (λ c. option_map (λ k. (c, k)) (kinds c.model)) d.comps a (a, k) h (ap (option_map (λ k. (a, k))) e) in
+      let i = in_filter_map (λ c. option_map (λ k. (c, k)) (kinds.kind c.model)) d.comps a (a, k) h (ap (option_map (λ k. (a, k))) e) in
       let r = passes_found (λ x. bytes_eq x.0.name a.name) (known_comps kinds d) (a, k) i (is_name a.name a.name refl) in
-      (component_in d r.0.0 r.0.1, comp_is kinds ties d a.name ∙ ap (option_map (λ x. component_in d x.0 x.1)) r.1)
+      (component_in kinds d r.0.0 r.0.1, comp_is kinds ties d a.name ∙ ap (option_map (λ x. component_in kinds d x.0 x.1)) r.1)
 
   -- ---- top pins
 

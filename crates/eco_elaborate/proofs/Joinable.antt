@@ -8,14 +8,15 @@ use Rattle.std.specs.FinMap.{get}
 use Rattle.std.specs.FinMap as fin
 use Rattle.eco_def.specs.Named.{NamedComp, NamedDesign}
 use Rattle.eco_common.specs.Joints.{NewJoint}
-use Rattle.eco_net.specs.Netlist.{Name, name_cmp, Kind, Component, Netlist, CompPin, IsNet, IsPin, IsWhole, HasRows, Role, pins_of}
+use Rattle.eco_net.specs.Netlist.{Name, name_cmp, Kind, Component, Netlist, CompPin, IsNet, IsPin, IsWellFormed, HasRows, Role, pins_of}
 use Rattle.eco_net.specs.Drivers.{net_of, joined_at}
 use Rattle.eco_net.proofs.Basics.{Has, contains_from_has, has_from_contains, has_found, same_Some, not_None}
-use Rattle.eco_elaborate.specs.Netlists.{Kinds, has_net, pin_names, netlist_of}
+use Rattle.eco_elaborate.specs.Netlists.{Kinds, kind_pins, netlist_of}
+use Rattle.eco_issued_laws.specs.Changes.{has_net}
 use Rattle.eco_elaborate.specs.Described.{NamesOnce, CanJoinIn}
 use Rattle.eco_net.specs.Joints.{with_joints, frame, IsRewired}
 use Rattle.eco_elaborate.specs.Joinable.{CanJoin}
-use Rattle.eco_elaborate.specs.Laws.{StillWhole, CanJoinIs}
+use Rattle.eco_elaborate.specs.Laws.{StillWellFormed, CanJoinIs}
 use Rattle.eco_elaborate.proofs.Names.{is_name}
 use Rattle.eco_elaborate.proofs.Members.{has_any}
 use Rattle.eco_elaborate.proofs.Lookups.{named_pin}
@@ -27,8 +28,8 @@ use Rattle.eco_elaborate.proofs.Rewiring.{its_wires, among}
 -- ---- by the design, and by its netlist
 
 -- a name among a kind's pins has a role
-pub has_role : (k : Kind) (p : Name) → Has (pin_names k) p → (r : Role) × (fin.find name_cmp p (pins_of k) ≡ Some r)
-has_role k p h = go (fin.find name_cmp p (pins_of k)) refl (sym (named_pin (pins_of k) p) ∙ has_any (λ q. bytes_eq q p) (pin_names k) p h (is_name p p refl))
+pub has_role : (k : Kind) (p : Name) → Has (kind_pins k) p → (r : Role) × (fin.find name_cmp p (pins_of k) ≡ Some r)
+has_role k p h = go (fin.find name_cmp p (pins_of k)) refl (sym (named_pin (pins_of k) p) ∙ has_any (λ q. bytes_eq q p) (kind_pins k) p h (is_name p p refl))
   where
     go : (o : Option Role) → fin.find name_cmp p (pins_of k) ≡ o → is_some (fin.find name_cmp p (pins_of k)) ≡ true → (r : Role) × (fin.find name_cmp p (pins_of k) ≡ Some r)
     go None e f = absurd (neither (sym (ap is_some e) ∙ f))
@@ -42,19 +43,19 @@ module _ (kinds : Kinds) (ties : List Name) (d : NamedDesign) (joints : List New
   N = netlist_of kinds ties d
 
   -- the component that stands for a, in the netlist
-  its_kind : (a : NamedComp) (k : Kind) → Has d.comps a → kinds a.model ≡ Some k → (x : Component) × (get N.comps a.name ≡ Some x) × (x.kind ≡ k)
+  its_kind : (a : NamedComp) (k : Kind) → Has d.comps a → kinds.kind a.model ≡ Some k → (x : Component) × (get N.comps a.name ≡ Some x) × (x.kind ≡ k)
   its_kind a k h e =
       let x = said_comp kinds ties d a k h e in
       let y = comp_said kinds ties d a.name x.0 x.1 in
       let same : y.0.0 ≡ a = once.comps y.0.0 a (contains_from_has d.comps y.0.0 y.1) (contains_from_has d.comps a h) y.2 in
-      (x.0, x.1, ap (λ z. z.kind) (sym y.4) ∙ same_Some (sym y.3 ∙ ap (λ z. kinds z.model) same ∙ e))
+      (x.0, x.1, ap (λ z. z.kind) (sym y.4) ∙ same_Some (sym y.3 ∙ ap (λ z. kinds.kind z.model) same ∙ e))
 
   to_netlist : CanJoinIn kinds d joints new → CanJoin N joints new
   to_netlist can = record {
     pins = λ j h.
         let a = can.pins j h in
         let x = its_kind a.0 a.1 (has_from_contains d.comps a.0 a.2) a.4 in
-        let r = has_role a.1 j.pin (has_from_contains (pin_names a.1) j.pin a.5) in
+        let r = has_role a.1 j.pin (has_from_contains (kind_pins a.1) j.pin a.5) in
         (x.0, ap (get N.comps) (sym a.3) ∙ x.1, (r.0, ap (λ k. fin.find name_cmp j.pin (pins_of k)) x.2 ∙ r.1));
     named = can.named;
     one_net = can.one_net;
@@ -75,7 +76,7 @@ module _ (kinds : Kinds) (ties : List Name) (d : NamedDesign) (joints : List New
         let x = can.pins j h in
         let y = comp_said kinds ties d j.comp x.0 x.1 in
         let role : fin.find name_cmp j.pin (pins_of y.0.1) ≡ Some x.2.0 = ap (λ z. fin.find name_cmp j.pin (pins_of z.kind)) y.4 ∙ x.2.1 in
-        (y.0.0, y.0.1, contains_from_has d.comps y.0.0 y.1, y.2, y.3, contains_from_has (pin_names y.0.1) j.pin (has_found (pins_of y.0.1) j.pin x.2.0 role));
+        (y.0.0, y.0.1, contains_from_has d.comps y.0.0 y.1, y.2, y.3, contains_from_has (kind_pins y.0.1) j.pin (has_found (pins_of y.0.1) j.pin x.2.0 role));
     named = can.named;
     one_net = can.one_net;
     known = λ j h. ⊎_elim (λ e. inl (net_known kinds ties d j.net e)) (λ i. inr i) (can.known j h);
@@ -87,7 +88,7 @@ can_join_is kinds ties d joints new once = (to_netlist kinds ties d joints new o
 
 -- ---- whole netlists
 
-module _ (N : Netlist) (joints : List NewJoint) (new : List Name) (is : IsWhole N) (can : CanJoin N joints new) where
+module _ (N : Netlist) (joints : List NewJoint) (new : List Name) (is : IsWellFormed N) (can : CanJoin N joints new) where
   abbrev M : Netlist
   M = with_joints N joints new
 
@@ -136,7 +137,7 @@ module _ (N : Netlist) (joints : List NewJoint) (new : List Name) (is : IsWhole 
           let w = is.pins c z.0 p n z.1 old in
           (same z.0 z.2 w.0, net_stays n w.1)
 
-  whole : IsWhole M
+  whole : IsWellFormed M
   whole = record {
     names = λ c x e. let y = was c x e in subst (λ k. IsDistinct (eq_by_cmp name_cmp) (map (λ e. e.0) (pins_of k))) y.2 (is.names c y.0 y.1);
     rows = λ c x e. let y = was c x e in subst HasRows y.2 (is.rows c y.0 y.1);
@@ -144,5 +145,5 @@ module _ (N : Netlist) (joints : List NewJoint) (new : List Name) (is : IsWhole 
     tops = λ t x e. net_stays x.net (is.tops t x e);
   }
 
-pub still_whole : StillWhole
-still_whole N joints new is can = whole N joints new is can
+pub still_well_formed : StillWellFormed
+still_well_formed N joints new is can = whole N joints new is can

@@ -10,7 +10,7 @@ use Rattle.eco_net.specs.declared.rows.CompRow.{CompRow}
 use Rattle.eco_net.specs.declared.rows.NetRow.{NetRow}
 use Rattle.eco_net.specs.Netlist.{Name, Component, Netlist, CompPin, pins_of}
 use Rattle.eco_net.specs.Drivers.{net_of}
-use Rattle.eco_net.specs.Listing.{Listing, netlist, component, comp_names, kind_of, net_name, pin_at, pin_named, with_joint, HasPin}
+use Rattle.eco_net.specs.Listing.{Listing, netlist, component, comp_names, given_kind, net_name, pin_at, numbered_pin, with_joint, HasPin}
 use Rattle.eco_net.specs.Changes.{with_pin_on, on_net as put_pin}
 use Rattle.eco_net.specs.Kept.{IsListing}
 use Rattle.eco_net.proofs.Basics.{Has, contains_from_has, has_from_contains, has_append_left, has_append_right, has_map, has_of_map, same_Some, not_None}
@@ -20,7 +20,7 @@ use Rattle.eco_elaborate.specs.declared.fault.DesignFault.{DesignFault}
 use Rattle.eco_elaborate.specs.declared.fault.DesignFault.TheVariants.{UnknownMacro, UnknownPin, PinNetDiffers, SupplyDiffers, Memory}
 use Rattle.eco_elaborate.specs.declared.joined_pin.JoinedPin.{JoinedPin}
 use Rattle.eco_net.specs.Joints.{put_on, IsRewired, OneNetEach}
-use Rattle.eco_elaborate.specs.Stages.{comp_name, pin_name, joint_of, joints_of, IsKnownJoint, name_and_kind, SameNumbers, net_before, JoinsPin, JoinsPins, OneFault, JoinFault}
+use Rattle.eco_elaborate.specs.Stages.{row_name, pin_name, joint_of, joints_of, IsKnownJoint, name_and_kind, SameNumbers, net_before, JoinsPin, JoinsPins, OneFault, JoinFault}
 use Rattle.eco_elaborate.proofs.Members.{has_of_append}
 use Rattle.eco_elaborate.proofs.Joining.{is_for, for_some}
 use Rattle.eco_elaborate.proofs.Rewiring.{its_wires}
@@ -109,7 +109,7 @@ joined_numbers L c k n = record { nets = refl; comps = λ d. go (slice_get L.com
     go (Some r) (Some s) h = λ i. Some (h.0 i, h.1 i)
 
 -- what stands under a number
-same_name : (o p : Option CompRow) → option_map name_and_kind o ≡ option_map name_and_kind p → comp_name o ≡ comp_name p
+same_name : (o p : Option CompRow) → option_map name_and_kind o ≡ option_map name_and_kind p → row_name o ≡ row_name p
 same_name None None e = refl
 same_name None (Some s) e = absurd (not_None (sym e))
 same_name (Some r) None e = absurd (not_None e)
@@ -130,13 +130,13 @@ same_pin : (o p : Option CompRow) (k : ℕ) → option_map name_and_kind o ≡ o
 same_pin None None k e = refl
 same_pin None (Some s) k e = absurd (not_None (sym e))
 same_pin (Some r) None k e = absurd (not_None e)
-same_pin (Some r) (Some s) k e = ap (λ z. unwrap_or (option_map (λ p. p.0) (slice_get (pins_of (kind_of z.1)) k)) []) (same_Some e)
+same_pin (Some r) (Some s) k e = ap (λ z. unwrap_or (option_map (λ p. p.0) (slice_get (pins_of (given_kind z.1)) k)) []) (same_Some e)
 
 same_known : (o p : Option CompRow) (k : ℕ) → option_map name_and_kind o ≡ option_map name_and_kind p → HasPin p k → HasPin o k
 same_known None None k e h = h
 same_known None (Some s) k e h = absurd (not_None (sym e))
 same_known (Some r) None k e h = absurd (not_None e)
-same_known (Some r) (Some s) k e h = subst (λ (z : Name × Given). k < length (pins_of (kind_of z.1))) (sym (same_Some e)) h
+same_known (Some r) (Some s) k e h = subst (λ (z : Name × Given). k < length (pins_of (given_kind z.1))) (sym (same_Some e)) h
 
 pub joint_stays : (L M : Listing) (p : JoinedPin) → SameNumbers L M → joint_of M p ≡ joint_of L p
 joint_stays L M p same =
@@ -153,33 +153,33 @@ known_stays L M p same known = (
 -- ---- one pin
 
 module _ (L : Listing) (is : IsListing L) (p : JoinedPin) (known : IsKnownJoint L p) where
-  pin_is : pin_named L (Pin p.comp p.pin) ≡ CompPin (joint_of L p).comp (joint_of L p).pin
+  pin_is : numbered_pin L (Pin p.comp p.pin) ≡ CompPin (joint_of L p).comp (joint_of L p).pin
   pin_is = go (slice_get L.comps p.comp.0) known.0
     where
-      go : (o : Option CompRow) → HasPin o p.pin → pin_at o p.pin ≡ CompPin (comp_name o) (pin_name o p.pin)
+      go : (o : Option CompRow) → HasPin o p.pin → pin_at o p.pin ≡ CompPin (row_name o) (pin_name o p.pin)
       go None h = absurd h
       go (Some r) h = refl
 
-  before_is : net_of (netlist L) (pin_named L (Pin p.comp p.pin)) ≡ net_before L p
+  before_is : net_of (netlist L) (numbered_pin L (Pin p.comp p.pin)) ≡ net_before L p
   before_is = ap (net_of (netlist L)) pin_is
 
-  pub pin_joined : net_of (netlist L) (pin_named L (Pin p.comp p.pin)) ≡ None → (M : Listing) → M ≡ record L { comps = with_joint L.comps p.comp.0 p.pin p.net.0 } →
-      netlist M ≡ with_pin_on (netlist L) (pin_named L (Pin p.comp p.pin)) (net_name L.nets p.net.0) → JoinsPin L p M
+  pub pin_joined : net_of (netlist L) (numbered_pin L (Pin p.comp p.pin)) ≡ None → (M : Listing) → M ≡ record L { comps = with_joint L.comps p.comp.0 p.pin p.net.0 } →
+      netlist M ≡ with_pin_on (netlist L) (numbered_pin L (Pin p.comp p.pin)) (net_name L.nets p.net.0) → JoinsPin L p M
   pin_joined none M rows named =
       let w = pin_row L is p.comp.0 p.pin known.0 in
-      let x : get (netlist L).comps (joint_of L p).comp ≡ Some (component L.nets w.row) = ap (λ o. get (netlist L).comps (comp_name o)) w.is ∙ comp_is L is p.comp.0 w.row w.is in
+      let x : get (netlist L).comps (joint_of L p).comp ≡ Some (component L.nets w.row) = ap (λ o. get (netlist L).comps (row_name o)) w.is ∙ comp_is L is p.comp.0 w.row w.is in
       record {
         wired = subst (IsRewired (netlist L) (joint_of L p ∷ []) []) (sym (named ∙ ap (λ q. with_pin_on (netlist L) q (net_name L.nets p.net.0)) pin_is)) (rewired_put (netlist L) (joint_of L p) (component L.nets w.row) x);
         before = inl (sym before_is ∙ none);
         same = subst (SameNumbers L) (sym rows) (joined_numbers L p.comp.0 p.pin p.net.0);
       }
 
-  pub pin_stays : (n : ℕ) → net_of (netlist L) (pin_named L (Pin p.comp p.pin)) ≡ Some (net_name L.nets n) → n ≡ p.net.0 → JoinsPin L p L
+  pub pin_stays : (n : ℕ) → net_of (netlist L) (numbered_pin L (Pin p.comp p.pin)) ≡ Some (net_name L.nets n) → n ≡ p.net.0 → JoinsPin L p L
   pin_stays n on e =
       let at : net_before L p ≡ Some (joint_of L p).net = sym before_is ∙ on ∙ ap (λ m. Some (net_name L.nets m)) e in
       record { wired = rewired_same (netlist L) (joint_of L p) at; before = inr at; same = same_numbers L }
 
-  pub pin_differs : (n : ℕ) → n < length L.nets → net_of (netlist L) (pin_named L (Pin p.comp p.pin)) ≡ Some (net_name L.nets n) → n ≢ p.net.0 → OneFault L p PinNetDiffers
+  pub pin_differs : (n : ℕ) → n < length L.nets → net_of (netlist L) (numbered_pin L (Pin p.comp p.pin)) ≡ Some (net_name L.nets n) → n ≢ p.net.0 → OneFault L p PinNetDiffers
   pin_differs n lt on a = (net_name L.nets n, sym before_is ∙ on, λ e. a (same_net L is n p.net.0 lt known.1 e))
 
 -- ---- many pins

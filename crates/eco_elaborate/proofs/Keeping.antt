@@ -8,15 +8,15 @@ use Rattle.std.specs.Str.{bytes_eq}
 use Rattle.std.proofs.lemmas.Bool.{or_left, or_right}
 use Rattle.eco_def.specs.Named.{NamedDesign}
 use Rattle.eco_common.specs.Joints.{NewJoint}
-use Rattle.eco_issued_laws.specs.Changes.{is_no_component, has_statement, changes_of}
+use Rattle.eco_issued_laws.specs.Changes.{is_no_component, has_statement, changes_of, statements}
 use Rattle.eco_issued_laws.specs.Issued.{issued_design}
-use Rattle.eco_net.specs.Netlist.{Name, name_cmp, Component, Top, Netlist, IsNet, IsPin, IsWhole, HasRows, pins_of}
+use Rattle.eco_net.specs.Netlist.{Name, name_cmp, Component, Top, Netlist, IsNet, IsPin, IsWellFormed, HasRows, pins_of}
 use Rattle.eco_net.specs.Drivers.{joined_at}
 use Rattle.eco_net.proofs.Basics.{Has, contains_from_has, has_from_contains, not_None}
-use Rattle.eco_elaborate.specs.Netlists.{Kinds, names_pin, statements, netlist_of}
-use Rattle.eco_elaborate.specs.Described.{AreWhole, IsOn, IsSupply, IsConsistent}
+use Rattle.eco_elaborate.specs.Netlists.{Kinds, names_pin, netlist_of}
+use Rattle.eco_elaborate.specs.Described.{AreWellFormed, IsOn, IsSupply, IsConsistent}
 use Rattle.eco_elaborate.specs.Joinable.{CanJoin}
-use Rattle.eco_elaborate.specs.Laws.{StillConsistent, NetlistWhole, NoneUnnamed}
+use Rattle.eco_elaborate.specs.Laws.{StillConsistent, NetlistWellFormed, NoneUnnamed}
 use Rattle.eco_elaborate.proofs.Names.{is_name}
 use Rattle.eco_elaborate.proofs.Members.{any_has, has_any}
 use Rattle.eco_elaborate.proofs.Joining.{IsFor, for_some}
@@ -64,7 +64,7 @@ still_consistent kinds ties d joints new is can = consistent kinds ties d joints
 
 -- ---- whole netlists
 
-module _ (kinds : Kinds) (ties : List Name) (d : NamedDesign) (each : AreWhole kinds) where
+module _ (kinds : Kinds) (ties : List Name) (d : NamedDesign) (each : AreWellFormed kinds) where
   abbrev N : Netlist
   N = netlist_of kinds ties d
 
@@ -76,7 +76,7 @@ module _ (kinds : Kinds) (ties : List Name) (d : NamedDesign) (each : AreWhole k
   its_pin : (c : Name) (x : Component) (p n : Name) → get N.comps c ≡ Some x → get x.joined p ≡ Some n → IsPin x p × IsNet N n
   its_pin c x p n e f =
       let y = comp_said kinds ties d c x e in
-      let r = pin_said d y.0.0 y.0.1 p n (ap (λ z. get z.joined p) y.4 ∙ f) in
+      let r = pin_said kinds d y.0.0 y.0.1 p n (ap (λ z. get z.joined p) y.4 ∙ f) in
       let s = on_statement d y.0.0.name p n r.1 in
       (subst (λ z. IsPin z p) y.4 r.0, known_net kinds ties d n (or_left (has_statement (statements d) n) _ (has_any (λ s. bytes_eq s.name n) (statements d) s.0 s.1 (is_name s.0.name n s.2))))
 
@@ -85,11 +85,11 @@ module _ (kinds : Kinds) (ties : List Name) (d : NamedDesign) (each : AreWhole k
       let p = top_said kinds ties d t x e in
       known_net kinds ties d x.net (or_right (has_statement (statements d) x.net) (list_any (λ p. bytes_eq p.net x.net) d.pins) (has_any (λ p. bytes_eq p.net x.net) d.pins p.0 p.1 (is_name p.0.net x.net (ap (λ z. z.net) p.4))))
 
-  whole : IsWhole N
+  whole : IsWellFormed N
   whole = record { names = λ c x e. (its_kind c x e).0; rows = λ c x e. (its_kind c x e).1; pins = its_pin; tops = its_top }
 
-pub netlist_whole : NetlistWhole
-netlist_whole kinds ties d each = whole kinds ties d each
+pub netlist_well_formed : NetlistWellFormed
+netlist_well_formed kinds ties d each = whole kinds ties d each
 
 -- ---- components that no joint can name
 
@@ -100,7 +100,7 @@ none_unnamed kinds ties d c p n e = go (get (netlist_of kinds ties d).comps c) r
     go None f g = absurd (not_None (sym g))
     go (Some x) f g =
         let y = comp_said kinds ties d c x f in
-        let r = pin_said d y.0.0 y.0.1 p n (ap (λ z. get z.joined p) y.4 ∙ g) in
+        let r = pin_said kinds d y.0.0 y.0.1 p n (ap (λ z. get z.joined p) y.4 ∙ g) in
         let s = on_statement d y.0.0.name p n r.1 in
         let j = any_has (names_pin y.0.0.name p) s.0.joints s.3 in
         let named = names_parts y.0.0.name p j.0 j.2 in

@@ -29,3 +29,4 @@ pub mod Unpowered
 mod Examples
 pub mod ReadingBack
 mod OwnText
+pub mod Centred

@@ -10,7 +10,8 @@ use Rattle.std.proofs.lemmas.List.Folds.{list_any-append}
 use Rattle.std.proofs.lemmas.Map.Lookups.{exact_bytes}
 use Rattle.eco_def.specs.Named.{NamedComp, NamedDesign}
 use Rattle.eco_net.specs.Netlist.{Name, name_cmp, Kind, Netlist, Role, pins_of}
-use Rattle.eco_elaborate.specs.Netlists.{Kinds, statements, has_net, supply_in, net_of_pin, pin_names, joined_in, component_in, known_comps, top_of, nets_in, components_in, tops_in, netlist_of}
+use Rattle.eco_elaborate.specs.Netlists.{Kinds, net_supply, net_of_pin, kind_pins, joined_in, component_in, known_comps, top_of, supplied_nets, components_in, tops_in, netlist_of}
+use Rattle.eco_issued_laws.specs.Changes.{has_net, statements}
 use Rattle.eco_elaborate.proofs.Names.{by_bytes_turned, same_name, found, found_name, any_mapped}
 
 -- ---- nets
@@ -21,16 +22,16 @@ named_nets d n =
     ∙ ap (λ b. b || list_any (λ m. bytes_eq m n) (map (λ p. p.net) d.pins)) (any_mapped (λ m. bytes_eq m n) (λ s. s.name) (statements d))
     ∙ ap (λ b. list_any (λ s. bytes_eq s.name n) (statements d) || b) (any_mapped (λ m. bytes_eq m n) (λ p. p.net) d.pins)
 
-pub net_is : (kinds : Kinds) (ties : List Name) (d : NamedDesign) (n : Name) → get (netlist_of kinds ties d).nets n ≡ cond (has_net d n) (Some (supply_in d n)) None
+pub net_is : (kinds : Kinds) (ties : List Name) (d : NamedDesign) (n : Name) → get (netlist_of kinds ties d).nets n ≡ cond (has_net d n) (Some (net_supply d n)) None
 net_is kinds ties d n =
-    get-from_entries nat_list_cmp_total (nets_in d) n
-    ∙ found_name (supply_in d) (map (λ s. s.name) (statements d) ++ map (λ p. p.net) d.pins) n
-    ∙ ap (λ b. cond b (Some (supply_in d n)) None) (named_nets d n)
+    get-from_entries nat_list_cmp_total (supplied_nets d) n
+    ∙ found_name (net_supply d) (map (λ s. s.name) (statements d) ++ map (λ p. p.net) d.pins) n
+    ∙ ap (λ b. cond b (Some (net_supply d n)) None) (named_nets d n)
 
 -- ---- components and top pins
 
-pub comp_is : (kinds : Kinds) (ties : List Name) (d : NamedDesign) (c : Name) → get (netlist_of kinds ties d).comps c ≡ option_map (λ x. component_in d x.0 x.1) (find (λ x. bytes_eq x.0.name c) (known_comps kinds d))
-comp_is kinds ties d c = get-from_entries nat_list_cmp_total (components_in kinds d) c ∙ found (λ x. x.0.name) (λ x. component_in d x.0 x.1) (known_comps kinds d) c
+pub comp_is : (kinds : Kinds) (ties : List Name) (d : NamedDesign) (c : Name) → get (netlist_of kinds ties d).comps c ≡ option_map (λ x. component_in kinds d x.0 x.1) (find (λ x. bytes_eq x.0.name c) (known_comps kinds d))
+comp_is kinds ties d c = get-from_entries nat_list_cmp_total (components_in kinds d) c ∙ found (λ x. x.0.name) (λ x. component_in kinds d x.0 x.1) (known_comps kinds d) c
 
 pub top_is : (kinds : Kinds) (ties : List Name) (d : NamedDesign) (t : Name) → get (netlist_of kinds ties d).tops t ≡ option_map top_of (find (λ p. bytes_eq p.name t) (filter (λ p. not p.supply) d.pins))
 top_is kinds ties d t = get-from_entries nat_list_cmp_total (tops_in d) t ∙ found (λ p. p.name) top_of (filter (λ p. not p.supply) d.pins) t
@@ -63,10 +64,10 @@ named_pin (e ∷ es) p = go (bytes_eq e.0 p) refl (named_pin es p)
     go false s rest = rest ∙ sym (ap (λ b. is_some (cond b (Some e.1) (fin.find name_cmp p es))) (by_bytes_turned p e.0 ∙ s))
 
 -- a component's pin is on the net by the design where its kind has it, and else on none
-pub joined_is : (d : NamedDesign) (c : NamedComp) (k : Kind) (p : Name) → get (component_in d c k).joined p ≡ cond (is_some (fin.find name_cmp p (pins_of k))) (net_of_pin d c.name p) None
-joined_is d c k p =
-    get-from_entries nat_list_cmp_total (joined_in d c.name (pin_names k)) p
-    ∙ found_joined d c.name (pin_names k) p
+pub joined_is : (kinds : Kinds) (d : NamedDesign) (c : NamedComp) (k : Kind) (p : Name) → get (component_in kinds d c k).joined p ≡ cond (is_some (fin.find name_cmp p (pins_of k))) (net_of_pin d c.name p) None
+joined_is kinds d c k p =
+    get-from_entries nat_list_cmp_total (joined_in d c.name (kind_pins k)) p
+    ∙ found_joined d c.name (kind_pins k) p
     ∙ ap (λ b. cond b (net_of_pin d c.name p) None) (named_pin (pins_of k) p)
 
 pub known_pin : (k : Kind) (p : Name) (r : Role) → fin.find name_cmp p (pins_of k) ≡ Some r → is_some (fin.find name_cmp p (pins_of k)) ≡ true

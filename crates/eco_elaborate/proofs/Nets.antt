@@ -8,12 +8,12 @@ use Rattle.std.proofs.lemmas.Bool.{or_cases, or_parts, or_left, or_right, true_f
 use Rattle.eco_common.specs.Options.{first_some}
 use Rattle.eco_def.specs.Named.{NamedNet, NamedDesign}
 use Rattle.eco_common.specs.Joints.{NewJoint}
-use Rattle.eco_issued_laws.specs.Changes.{Fresh, has_statement, new_pins, precedes, in_order, stated_first, fresh_nets, is_nil, once_each, changes_of}
+use Rattle.eco_issued_laws.specs.Changes.{Fresh, has_statement, new_pins, precedes, in_order, stated_first, fresh_nets, is_nil, once_each, changes_of, has_net, statements}
 use Rattle.eco_issued_laws.specs.Issued.{issued_net, fresh_net, issued_design}
 use Rattle.eco_net.specs.Netlist.{Name, IsNet}
 use Rattle.eco_net.proofs.Basics.{Has, has_map, has_of_map, has_append_left, has_append_right, not_None}
 pub use Rattle.eco_elaborate.specs.Stated.{supply_among}
-use Rattle.eco_elaborate.specs.Netlists.{Kinds, statements, has_net, supply_by, supply_in, netlist_of}
+use Rattle.eco_elaborate.specs.Netlists.{Kinds, supply_by, net_supply, netlist_of}
 use Rattle.eco_elaborate.proofs.Names.{or_none, same_name, is_name}
 use Rattle.eco_elaborate.proofs.Members.{has_of_append, any_has, has_any, of_filter, of_order, to_order, of_once}
 use Rattle.eco_elaborate.proofs.Lookups.{net_is}
@@ -21,10 +21,10 @@ use Rattle.eco_elaborate.proofs.Lookups.{net_is}
 -- ---- a net of the netlist
 
 pub net_known : (kinds : Kinds) (ties : List Name) (d : NamedDesign) (n : Name) → IsNet (netlist_of kinds ties d) n → has_net d n ≡ true
-net_known kinds ties d n is = true_from_ne_false (has_net d n) (λ f. not_None (sym is.1 ∙ net_is kinds ties d n ∙ ap (λ b. cond b (Some (supply_in d n)) None) f))
+net_known kinds ties d n is = true_from_ne_false (has_net d n) (λ f. not_None (sym is.1 ∙ net_is kinds ties d n ∙ ap (λ b. cond b (Some (net_supply d n)) None) f))
 
 pub known_net : (kinds : Kinds) (ties : List Name) (d : NamedDesign) (n : Name) → has_net d n ≡ true → IsNet (netlist_of kinds ties d) n
-known_net kinds ties d n e = (supply_in d n, net_is kinds ties d n ∙ ap (λ b. cond b (Some (supply_in d n)) None) e)
+known_net kinds ties d n e = (net_supply d n, net_is kinds ties d n ∙ ap (λ b. cond b (Some (net_supply d n)) None) e)
 
 pub net_unknown : (kinds : Kinds) (ties : List Name) (d : NamedDesign) (n : Name) → get (netlist_of kinds ties d).nets n ≡ None → has_net d n ≡ false
 net_unknown kinds ties d n none = false_from_ne_true (has_net d n) (λ e. not_None (sym (known_net kinds ties d n e).1 ∙ none))
@@ -86,7 +86,7 @@ module _ (d : NamedDesign) (joints : List NewJoint) (nets : List Name) where
   abbrev fresh : List NamedNet
   fresh = map fresh_net (fresh_nets d joints nets)
 
-  pub same_supply : (q : Name) → supply_in e q ≡ supply_in d q
+  pub same_supply : (q : Name) → net_supply e q ≡ net_supply d q
   same_supply q =
       let specials = map (issued true) d.special in
       let plains = map (issued false) d.nets in
@@ -168,13 +168,13 @@ module _ (d : NamedDesign) (joints : List NewJoint) (nets : List Name) where
   issued_net_is kinds ties new q =
       net_is kinds ties e q ∙ ap (λ o. cond (has_net e q) (Some o) None) (same_supply q) ∙ go (list_any (λ n. bytes_eq n q) nets) refl
     where
-      go : (b : Bool) → list_any (λ n. bytes_eq n q) nets ≡ b → cond (has_net e q) (Some (supply_in d q)) None ≡ cond b (Some None) (get (netlist_of kinds ties d).nets q)
+      go : (b : Bool) → list_any (λ n. bytes_eq n q) nets ≡ b → cond (has_net e q) (Some (net_supply d q)) None ≡ cond b (Some None) (get (netlist_of kinds ties d).nets q)
       go true f =
           let r = any_has (λ n. bytes_eq n q) nets f in
           let h : Has nets q = subst (Has nets) (same_name r.0 q r.2) r.1 in
           let none = (or_parts (has_statement (statements d) q) (list_any (λ p. bytes_eq p.net q) d.pins) (net_unknown kinds ties d q (new q h))).0 in
-          ap (λ b. cond b (Some (supply_in d q)) None) (new_issued q h) ∙ ap Some (no_supply (statements d) q none)
-      go false f = ap (λ b. cond b (Some (supply_in d q)) None) (same (has_net d q) refl) ∙ sym (net_is kinds ties d q)
+          ap (λ b. cond b (Some (net_supply d q)) None) (new_issued q h) ∙ ap Some (no_supply (statements d) q none)
+      go false f = ap (λ b. cond b (Some (net_supply d q)) None) (same (has_net d q) refl) ∙ sym (net_is kinds ties d q)
         where
           same : (b : Bool) → has_net d q ≡ b → has_net e q ≡ has_net d q
           same true g = old_issued q g ∙ sym g

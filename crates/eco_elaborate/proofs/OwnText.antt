@@ -17,7 +17,7 @@ use Rattle.eco_net.specs.Netlist.{Name, name_cmp, Component, Netlist, CompPin}
 use Rattle.eco_net.specs.Drivers.{net_of, joined_at}
 use Rattle.eco_net.proofs.Basics.{Has, has_of_map, cmp_itself, cmp_apart}
 use Rattle.eco_elaborate.specs.Netlists.{netlist_of}
-use Rattle.eco_elaborate.specs.ReadingBack.{is_net, is_joined, pins_of_comp, moved_pins, new_nets, OwnText}
+use Rattle.eco_elaborate.specs.ReadingBack.{is_named_net, is_joined, pins_of_comp, moved_pins, new_nets, OwnText}
 use Rattle.eco_elaborate.proofs.Members.{filter_none}
 use Rattle.eco_elaborate.proofs.Names.{is_name}
 use Rattle.eco_elaborate.proofs.Stating.{of_flat_map}
@@ -73,8 +73,8 @@ module _ (N : Netlist) where
       let comp : get N.comps c.0.0 ≡ Some c.0.1 = entry_get N.comps c.0.0 c.0.1 c.1 in
       let pin : get c.0.1.joined e.0.0 ≡ Some e.0.1 = entry_get c.0.1.joined e.0.0 e.0.1 e.1 in
       ap (λ k. not (is_joined N k)) (sym e.2)
-      ∙ ap (λ o. not (is_net (joined_at o e.0.0) e.0.1)) comp
-      ∙ ap (λ o. not (is_net o e.0.1)) pin
+      ∙ ap (λ o. not (is_named_net (joined_at o e.0.0) e.0.1)) comp
+      ∙ ap (λ o. not (is_named_net o e.0.1)) pin
       ∙ ap not (is_name e.0.1 e.0.1 refl)
 
   none_moved : moved_pins N N ≡ []

@@ -8,11 +8,11 @@ use Rattle.std.proofs.lemmas.List.Folds.{list_any-append, find-append}
 use Rattle.std.proofs.lemmas.Map.Views.{any-filter_same}
 use Rattle.eco_def.specs.Named.{NamedJoint, NamedNet, NamedDesign}
 use Rattle.eco_common.specs.Joints.{NewJoint}
-use Rattle.eco_issued_laws.specs.Changes.{Fresh, is_no_component, is_of, stays_on, stands, has_statement, new_pins, pin_of, precedes, in_order, stated_first, fresh_nets, is_nil, once_each, changes_of}
+use Rattle.eco_issued_laws.specs.Changes.{Fresh, is_no_component, is_joint_of, stays_on, stands, has_statement, new_pins, pin_joint, precedes, in_order, stated_first, fresh_nets, is_nil, once_each, changes_of, has_net, statements}
 use Rattle.eco_issued_laws.specs.Issued.{issued_net, fresh_net, issued_design}
 use Rattle.eco_net.specs.Netlist.{Name}
 use Rattle.eco_net.proofs.Basics.{Has, has_map, has_of_map, has_append_left, has_append_right}
-use Rattle.eco_elaborate.specs.Netlists.{statements, has_net, names_pin, has_joint, net_of_pin}
+use Rattle.eco_elaborate.specs.Netlists.{names_pin, has_joint, net_of_pin}
 use Rattle.eco_elaborate.proofs.Names.{or_none, same_name, is_name}
 use Rattle.eco_elaborate.proofs.Members.{has_of_append, any_has, has_any, all_has, has_all, of_filter, in_filter, to_order, to_once}
 use Rattle.eco_elaborate.proofs.Joining.{IsFor}
@@ -71,7 +71,7 @@ module _ (d : NamedDesign) (joints : List NewJoint) (nets : List Name) (c p : Na
 
   module _ (none : (n : NewJoint) → Has joints n → IsFor n c p → ⊥) where
     keeps : (net : Name) (j : NamedJoint) → names_pin c p j ≡ true → stays_on joints net j ≡ true
-    keeps net j e = has_all (λ n. not (is_of n j) || bytes_eq n.net net) joints (λ n h. or_left (not (is_of n j)) (bytes_eq n.net net) (ap not (false_from_ne_true (is_of n j) (λ f. none n h (of_both n c p j e f)))))
+    keeps net j e = has_all (λ n. not (is_joint_of n j) || bytes_eq n.net net) joints (λ n h. or_left (not (is_joint_of n j)) (bytes_eq n.net net) (ap not (false_from_ne_true (is_joint_of n j) (λ f. none n h (of_both n c p j e f)))))
 
     none_added : (special : Bool) (net : Name) → list_any (names_pin c p) (added special net) ≡ false
     none_added special net = go (special && has_statement d.nets net)
@@ -124,8 +124,8 @@ module _ (d : NamedDesign) (joints : List NewJoint) (nets : List Name) (c p : Na
     only_kept s e =
         let r = any_has (names_pin c p) (filter (stays_on joints s.name) s.joints) e in
         let k = of_filter (stays_on joints s.name) s.joints r.0 r.1 in
-        let t = all_has (λ m. not (is_of m r.0) || bytes_eq m.net s.name) joints n k.1 here in
-        ⊎_elim (λ a. absurd (true≢false (sym a ∙ ap not (same_test n c p r.0 for ∙ r.2)))) (λ b. sym (same_name n.net s.name b)) (or_cases (not (is_of n r.0)) (bytes_eq n.net s.name) t)
+        let t = all_has (λ m. not (is_joint_of m r.0) || bytes_eq m.net s.name) joints n k.1 here in
+        ⊎_elim (λ a. absurd (true≢false (sym a ∙ ap not (same_test n c p r.0 for ∙ r.2)))) (λ b. sym (same_name n.net s.name b)) (or_cases (not (is_joint_of n r.0)) (bytes_eq n.net s.name) t)
 
     only_new : (net : Name) → list_any (names_pin c p) (new_pins d joints net) ≡ true → net ≡ n.net
     only_new net e = let r = of_new_named d joints net c p e in sym r.4 ∙ one r.0 r.1 (r.2, r.3)
@@ -171,27 +171,27 @@ module _ (d : NamedDesign) (joints : List NewJoint) (nets : List Name) (c p : Na
       e,
     )
 
-    is_named : names_pin c p (pin_of n) ≡ true
+    is_named : names_pin c p (pin_joint n) ≡ true
     is_named = names_new n c p for named
 
-    stays : (net : Name) (j : NamedJoint) → is_of n j ≡ true → net ≡ n.net → stays_on joints net j ≡ true
-    stays net j e s = has_all (λ m. not (is_of m j) || bytes_eq m.net net) joints (λ m h. ⊎_elim
-        (λ t. or_right (not (is_of m j)) (bytes_eq m.net net) (is_name m.net net (one m h (of_both m c p j (sym (same_test n c p j for) ∙ e) t) ∙ sym s)))
-        (λ f. or_left (not (is_of m j)) (bytes_eq m.net net) (ap not f))
-        (cases_Bool (is_of m j)))
+    stays : (net : Name) (j : NamedJoint) → is_joint_of n j ≡ true → net ≡ n.net → stays_on joints net j ≡ true
+    stays net j e s = has_all (λ m. not (is_joint_of m j) || bytes_eq m.net net) joints (λ m h. ⊎_elim
+        (λ t. or_right (not (is_joint_of m j)) (bytes_eq m.net net) (is_name m.net net (one m h (of_both m c p j (sym (same_test n c p j for) ∙ e) t) ∙ sym s)))
+        (λ f. or_left (not (is_joint_of m j)) (bytes_eq m.net net) (ap not f))
+        (cases_Bool (is_joint_of m j)))
 
-    stood : (special : Bool) (s : NamedNet) → s.name ≡ n.net → list_any (is_of n) s.joints ≡ true → has_joint c p (issued special s) ≡ true
+    stood : (special : Bool) (s : NamedNet) → s.name ≡ n.net → list_any (is_joint_of n) s.joints ≡ true → has_joint c p (issued special s) ≡ true
     stood special s e a =
-        let r = any_has (is_of n) s.joints a in
+        let r = any_has (is_joint_of n) s.joints a in
         has_any (names_pin c p) (filter (stays_on joints s.name) s.joints ++ added special s.name) r.0
         (has_append_left (filter (stays_on joints s.name) s.joints) (added special s.name) r.0 (in_filter (stays_on joints s.name) s.joints r.0 r.1 (stays s.name r.0 r.2 e)))
         (sym (same_test n c p r.0 for) ∙ r.2)
 
     came : (special : Bool) (s : NamedNet) → s.name ≡ n.net → stands (d.special ++ d.nets) n ≡ false → (special && has_statement d.nets s.name) ≡ false → has_joint c p (issued special s) ≡ true
     came special s e f g =
-        has_any (names_pin c p) (filter (stays_on joints s.name) s.joints ++ added special s.name) (pin_of n)
-        (has_append_right (filter (stays_on joints s.name) s.joints) (added special s.name) (pin_of n)
-        (subst (λ b. Has (if b then [] else new_pins d joints s.name) (pin_of n)) (sym g) (in_new d joints s.name n here (sym e) f)))
+        has_any (names_pin c p) (filter (stays_on joints s.name) s.joints ++ added special s.name) (pin_joint n)
+        (has_append_right (filter (stays_on joints s.name) s.joints) (added special s.name) (pin_joint n)
+        (subst (λ b. Has (if b then [] else new_pins d joints s.name) (pin_joint n)) (sym g) (in_new d joints s.name n here (sym e) f)))
         is_named
 
     by_fresh : stands (d.special ++ d.nets) n ≡ false → Has (nets ++ stated_first d joints) n.net → HasPin
@@ -201,14 +201,14 @@ module _ (d : NamedDesign) (joints : List NewJoint) (nets : List Name) (c p : Na
         let has : Has fresh (fresh_net one) = has_map fresh_net (fresh_nets d joints nets) one (has_map all ordered n.net (to_order precedes (nets ++ stated_first d joints) n.net h)) in (
           fresh_net one,
           has_append_right (map (issued true) d.special) (map (issued false) d.nets ++ fresh) (fresh_net one) (has_append_right (map (issued false) d.nets) fresh (fresh_net one) has),
-          has_any (names_pin c p) (new_pins d joints n.net) (pin_of n) (in_new d joints n.net n here refl f) is_named,
+          has_any (names_pin c p) (new_pins d joints n.net) (pin_joint n) (in_new d joints n.net n here refl f) is_named,
         )
 
     -- a net that only top pins name gets its first statement
     by_top : stands (d.special ++ d.nets) n ≡ false → has_statement (statements d) n.net ≡ false → list_any (λ p. bytes_eq p.net n.net) d.pins ≡ true → HasPin
     by_top f a t =
         let r = any_has (λ p. bytes_eq p.net n.net) d.pins t in
-        let gets : not (is_nil (new_pins d joints n.net)) ≡ true = ap not (some_pin (new_pins d joints n.net) (pin_of n) (in_new d joints n.net n here refl f)) in
+        let gets : not (is_nil (new_pins d joints n.net)) ≡ true = ap not (some_pin (new_pins d joints n.net) (pin_joint n) (in_new d joints n.net n here refl f)) in
         let at : Has (map (λ p. p.net) d.pins) n.net = subst (Has (map (λ p. p.net) d.pins)) (same_name r.0.net n.net r.2) (has_map (λ p. p.net) d.pins r.0 r.1) in
         by_fresh f (has_append_right nets (stated_first d joints) n.net
         (in_filter (λ net. not (has_statement (d.special ++ d.nets) net) && not (is_nil (new_pins d joints net))) (once_each (map (λ p. p.net) d.pins)) n.net (to_once (map (λ p. p.net) d.pins) n.net at)
@@ -223,8 +223,8 @@ module _ (d : NamedDesign) (joints : List NewJoint) (nets : List Name) (c p : Na
       where
         old : stands (d.special ++ d.nets) n ≡ true → HasPin
         old e =
-            let r = any_has (λ s. bytes_eq s.name n.net && list_any (is_of n) s.joints) (d.special ++ d.nets) e in
-            let a = and_parts (bytes_eq r.0.name n.net) (list_any (is_of n) r.0.joints) r.2 in
+            let r = any_has (λ s. bytes_eq s.name n.net && list_any (is_joint_of n) s.joints) (d.special ++ d.nets) e in
+            let a = and_parts (bytes_eq r.0.name n.net) (list_any (is_joint_of n) r.0.joints) r.2 in
             ⊎_elim
             (λ h. by_special r.0 h (stood true r.0 (same_name r.0.name n.net a.0) a.1))
             (λ h. by_plain r.0 h (stood false r.0 (same_name r.0.name n.net a.0) a.1))

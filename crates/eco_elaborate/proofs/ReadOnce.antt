@@ -13,7 +13,7 @@ use Rattle.eco_text.specs.Tokens.{is_word, is_name, is_one_of}
 use Rattle.eco_common.specs.NameBytes.{is_among}
 use Rattle.eco_common.specs.Options.{first_some}
 use Rattle.eco_def.specs.Named.{comp_names, pin_names}
-use Rattle.eco_net.specs.Listing.{AreApart}
+use Rattle.eco_net.specs.Listing.{AreDistinctNames}
 use Rattle.eco_net.proofs.Places.{apart_nil, apart_push}
 use Rattle.eco_net.proofs.Basics.{Has, has_from_contains, has_of_map, same_Some, not_None}
 use Rattle.eco_elaborate.specs.Laws.{ReadOnce}
@@ -78,7 +78,7 @@ gives_new known (word_then w u) x r e = go (is_name w) e
 
 -- no key stands twice
 abbrev pub OneEach : {A : Type 0} → (A → List ℕ) → List A → Type 0
-OneEach {A} key xs = AreApart (map key xs)
+OneEach {A} key xs = AreDistinctNames (map key xs)
 
 has_placed : {A : Type 0} (xs : List A) (i : ℕ) (x : A) → slice_get xs i ≡ Some x → Has xs x
 has_placed [] i x e = absurd (not_None (sym e))
@@ -91,7 +91,7 @@ placed_has (y ∷ ys) x (inl e) = (0, ap Some e)
 placed_has (y ∷ ys) x (inr h) = let r = placed_has ys x h in (suc r.0, r.1)
 
 one_more : {A : Type 0} (key : A → List ℕ) (xs : List A) (x : A) → OneEach key xs → is_among (map key xs) (key x) ≡ false → OneEach key (xs ++ x ∷ [])
-one_more key xs x one new = subst AreApart (sym (map_push key xs x)) (apart_push (map key xs) (key x) one (λ i e.
+one_more key xs x one new = subst AreDistinctNames (sym (map_push key xs x)) (apart_push (map key xs) (key x) one (λ i e.
     true≢false (sym (has_any (λ n. bytes_eq n (key x)) (map key xs) (key x) (has_placed (map key xs) i (key x) e) (names_same (key x) (key x) refl)) ∙ new)))
 
 gives_many : {A : Type 0} (key : A → List ℕ) (goes : Token → Bool) (item : List A → Parser A) → ((xs : List A) → Gives (λ x. is_among (map key xs) (key x) ≡ false) (item xs)) →
@@ -293,10 +293,10 @@ design_once text d e = elim (answer (parts (walk_of text))) [
 ]
 
 -- no component is named twice, and no top pin is
-pub comps_apart : (text : List ℕ) (d : Design) → design_of text ≡ Ok d → AreApart (map (λ c. c.name.bytes) d.comps)
+pub comps_apart : (text : List ℕ) (d : Design) → design_of text ≡ Ok d → AreDistinctNames (map (λ c. c.name.bytes) d.comps)
 comps_apart text d e = (design_once text d e).0
 
-pub pins_apart : (text : List ℕ) (d : Design) → design_of text ≡ Ok d → AreApart (map (λ p. p.name.bytes) d.pins)
+pub pins_apart : (text : List ℕ) (d : Design) → design_of text ≡ Ok d → AreDistinctNames (map (λ p. p.name.bytes) d.pins)
 pins_apart text d e = (design_once text d e).1
 
 -- by names

@@ -1,7 +1,6 @@
 -- The netlist of a design is the one that its statements tell.
 use Rattle.std.proofs.Common.{◌≡◌, ◌↔◌, Bool, true, false, cond, List, Option, Some, None, is_some, refl, sym, ap, ◌∙◌, subst}
 use Rattle.std.specs.List.{Contains}
-use Rattle.std.specs.Option.{option_map}
 use Rattle.std.specs.Cmp.Lexicographic.{nat_list_cmp_total}
 use Rattle.std.specs.FinMap.{get, same_map}
 use Rattle.std.specs.FinMap as fin
@@ -9,7 +8,8 @@ use Rattle.std.proofs.lemmas.Map.Lookups.{exact_bytes}
 use Rattle.eco_def.specs.Named.{NamedComp, NamedPin, NamedDesign}
 use Rattle.eco_net.specs.Netlist.{Name, name_cmp, Kind, Component, Top, Netlist, IsPin, pins_of}
 use Rattle.eco_net.proofs.Basics.{Has, contains_from_has, has_from_contains, same_Some, not_None, has_found}
-use Rattle.eco_elaborate.specs.Netlists.{Kinds, statements, net_of_pin, pin_names, component_in, top_of, netlist_of}
+use Rattle.eco_elaborate.specs.Netlists.{Kinds, centre_in, net_of_pin, kind_pins, component_in, top_of, netlist_of}
+use Rattle.eco_issued_laws.specs.Changes.{statements}
 use Rattle.eco_elaborate.specs.Described.{IsOn, IsConsistent, IsNetlistOf}
 use Rattle.eco_elaborate.specs.Laws.{NetlistIs}
 use Rattle.eco_elaborate.proofs.Lookups.{joined_is, same_netlist}
@@ -19,11 +19,11 @@ use Rattle.eco_elaborate.proofs.Found.{supply_said, said_supply, comp_said, said
 
 -- ---- the pins of one component
 
-module _ (d : NamedDesign) (a : NamedComp) (k : Kind) where
-  has_pin : (p : Name) (o : Bool) → is_some (fin.find name_cmp p (pins_of k)) ≡ o → (n : Name) → cond o (net_of_pin d a.name p) None ≡ Some n → IsPin (component_in d a k) p × IsOn d a.name p n
+module _ (kinds : Kinds) (d : NamedDesign) (a : NamedComp) (k : Kind) where
+  has_pin : (p : Name) (o : Bool) → is_some (fin.find name_cmp p (pins_of k)) ≡ o → (n : Name) → cond o (net_of_pin d a.name p) None ≡ Some n → IsPin (component_in kinds d a k) p × IsOn d a.name p n
   has_pin p true e n f = (found (fin.find name_cmp p (pins_of k)) refl e, on_first d a.name p n f)
     where
-      found : (o : Option _) → fin.find name_cmp p (pins_of k) ≡ o → is_some o ≡ true → IsPin (component_in d a k) p
+      found : (o : Option _) → fin.find name_cmp p (pins_of k) ≡ o → is_some o ≡ true → IsPin (component_in kinds d a k) p
       found None g h = absurd (not_true h)
         where
           not_true : false ≡ true → ⊥
@@ -31,14 +31,14 @@ module _ (d : NamedDesign) (a : NamedComp) (k : Kind) where
       found (Some r) g h = (r, g)
   has_pin p false e n f = absurd (not_None (sym f))
 
-  pub pin_said : (p n : Name) → get (component_in d a k).joined p ≡ Some n → IsPin (component_in d a k) p × IsOn d a.name p n
-  pin_said p n e = has_pin p (is_some (fin.find name_cmp p (pins_of k))) refl n (sym (joined_is d a k p) ∙ e)
+  pub pin_said : (p n : Name) → get (component_in kinds d a k).joined p ≡ Some n → IsPin (component_in kinds d a k) p × IsOn d a.name p n
+  pin_said p n e = has_pin p (is_some (fin.find name_cmp p (pins_of k))) refl n (sym (joined_is kinds d a k p) ∙ e)
 
-  pub said_pin : (kinds : Kinds) → IsConsistent kinds d → Has d.comps a → kinds a.model ≡ Some k → (p n : Name) → IsPin (component_in d a k) p → IsOn d a.name p n → get (component_in d a k).joined p ≡ Some n
-  said_pin kinds is in_design known p n pin on =
+  pub said_pin : IsConsistent kinds d → Has d.comps a → kinds.kind a.model ≡ Some k → (p n : Name) → IsPin (component_in kinds d a k) p → IsOn d a.name p n → get (component_in kinds d a k).joined p ≡ Some n
+  said_pin is in_design known p n pin on =
       let s = on_statement d a.name p n on in
-      let named : Contains (pin_names k) p = contains_from_has (pin_names k) p (has_found (pins_of k) p pin.0 pin.1) in
-      joined_is d a k p
+      let named : Contains (kind_pins k) p = contains_from_has (kind_pins k) p (has_found (pins_of k) p pin.0 pin.1) in
+      joined_is kinds d a k p
       ∙ ap (λ o. cond (is_some o) (net_of_pin d a.name p) None) pin.1
       ∙ net_by_one a.name p n (statements d) s.0 s.1 s.3 (λ z h f. is.one_net a k p z.name n (contains_from_has d.comps a in_design) known named (statement_on d a.name p z.name z h refl f) on)
 
@@ -52,8 +52,8 @@ module _ (kinds : Kinds) (ties : List Name) (d : NamedDesign) (is : IsConsistent
   pins_told c x p n e =
       let y = comp_said kinds ties d c x e in
       subst (λ z. (get z.joined p ≡ Some n) ↔ (IsPin z p × IsOn d c p n)) y.4
-      (subst (λ q. (get (component_in d y.0.0 y.0.1).joined p ≡ Some n) ↔ (IsPin (component_in d y.0.0 y.0.1) p × IsOn d q p n)) y.2
-      (pin_said d y.0.0 y.0.1 p n, λ r. said_pin d y.0.0 y.0.1 kinds is y.1 y.3 p n r.0 r.1))
+      (subst (λ q. (get (component_in kinds d y.0.0 y.0.1).joined p ≡ Some n) ↔ (IsPin (component_in kinds d y.0.0 y.0.1) p × IsOn d q p n)) y.2
+      (pin_said kinds d y.0.0 y.0.1 p n, λ r. said_pin kinds d y.0.0 y.0.1 is y.1 y.3 p n r.0 r.1))
 
   tops_told : (t : Name) (x : Top) → (get N.tops t ≡ Some x) ↔ ((p : NamedPin) × Contains d.pins p × (p.supply ≡ false) × (p.name ≡ t) × (top_of p ≡ x))
   tops_told t x = (
@@ -115,8 +115,8 @@ module _ (kinds : Kinds) (ties : List Name) (d : NamedDesign) (is : IsConsistent
           let a = m.comps c x e in
           let b = n.comps c y f in
           let one : a.0 ≡ b.0 = is.once.comps a.0 b.0 a.1 b.1 (a.2 ∙ sym b.2) in
-          let kind : x.kind ≡ y.kind = same_Some (sym a.3 ∙ ap (λ z. kinds z.model) one ∙ b.3) in
-          let place : x.place ≡ y.place = a.4 ∙ ap (λ z. option_map (λ p. p.point) z.place) one ∙ sym b.4 in
+          let kind : x.kind ≡ y.kind = same_Some (sym a.3 ∙ ap (λ z. kinds.kind z.model) one ∙ b.3) in
+          let place : x.place ≡ y.place = a.4 ∙ ap (centre_in kinds d.units) one ∙ sym b.4 in
           let role : (p : Name) → fin.find name_cmp p (pins_of x.kind) ≡ fin.find name_cmp p (pins_of y.kind) = λ p. ap (λ k. fin.find name_cmp p (pins_of k)) kind in
           let joined : x.joined ≡ y.joined = same_map nat_list_cmp_total exact_bytes _ _ (λ p. same_option (get x.joined p) (get y.joined p)
           (λ q g. let r = (m.pins c x p q e).0 g in (n.pins c y p q f).1 ((r.0.0, sym (role p) ∙ r.0.1), r.1))

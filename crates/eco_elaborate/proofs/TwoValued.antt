@@ -7,6 +7,7 @@ use Rattle.eco_def.specs.Named.{NamedNet, NamedDesign, names_of}
 use Rattle.eco_def.specs.View.{design_in}
 use Rattle.eco_net.specs.Netlist.{Name}
 use Rattle.eco_net.proofs.Basics.{same_Some, not_None}
+use Rattle.eco_elaborate.specs.Netlists.{Kinds}
 use Rattle.eco_elaborate.specs.Described.{IsSupply}
 use Rattle.eco_elaborate.specs.Stated.{named_nets, supply_among}
 use Rattle.eco_elaborate.specs.Stages.{keeps_value}
@@ -35,16 +36,20 @@ module _ (text : List ℕ) (d : Design) where
   abbrev ss : List NamedNet
   ss = named_nets text d.nets
 
+  -- no macro
+  abbrev no_kinds : Kinds
+  no_kinds = record { kind = λ n. None; size = λ n. record { width = 0; height = 0 } }
+
   abbrev keeps : NamedNet → Bool
   keeps = keeps_value (supply_among ss)
 
   both : (s : NamedNet) → find (λ s. not (keeps s)) ss ≡ Some s → IsSupply D s.name true × IsSupply D s.name false
   both s e =
       let r = found_passes (λ s. not (keeps s)) ss s e in
-      both_values (λ n. None) (λ n p. false) D ss (to_text text d) (from_text text d) s r.0 (flip (keeps s) r.1)
+      both_values no_kinds (λ n p. false) D ss (to_text text d) (from_text text d) s r.0 (flip (keeps s) r.1)
 
   one_each : first_two_valued ss ≡ None → HasTwoValues D → ⊥
-  one_each e h = true≢false (one_value (λ n. None) (λ n p. false) D ss (to_text text d) (from_text text d) (none_differs keeps ss (go (find (λ s. not (keeps s)) ss) e)) h.0 true false h.1 h.2)
+  one_each e h = true≢false (one_value no_kinds (λ n p. false) D ss (to_text text d) (from_text text d) (none_differs keeps ss (go (find (λ s. not (keeps s)) ss) e)) h.0 true false h.1 h.2)
     where
       go : (o : Option NamedNet) → option_map (λ s. s.name) o ≡ None → o ≡ None
       go None f = refl

@@ -2,10 +2,10 @@
 use Rattle.std.proofs.Common.{◌≡◌, false, sym, subst, ⊎_elim, true≢false}
 use Rattle.std.specs.List.{Contains}
 use Rattle.eco_def.specs.Named.{NamedJoint, NamedNet, NamedDesign}
-use Rattle.eco_issued_laws.specs.Changes.{is_no_component}
+use Rattle.eco_issued_laws.specs.Changes.{is_no_component, statements}
 use Rattle.eco_net.specs.Netlist.{Name, Netlist}
 use Rattle.eco_net.proofs.Basics.{contains_from_has}
-use Rattle.eco_elaborate.specs.Netlists.{Kinds, statements, names_pin}
+use Rattle.eco_elaborate.specs.Netlists.{Kinds, names_pin}
 use Rattle.eco_elaborate.specs.Described.{IsOn}
 use Rattle.eco_elaborate.specs.Building.{IsPinOf, IsListed}
 use Rattle.eco_elaborate.proofs.Members.{any_has}

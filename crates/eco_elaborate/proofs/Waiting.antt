@@ -11,7 +11,7 @@ use Rattle.eco_net.proofs.Basics.{Has, same_head, has_from_contains, has_append_
 use Rattle.eco_elaborate.specs.declared.fault.DesignFault.{DesignFault}
 use Rattle.eco_elaborate.specs.declared.joined_pin.JoinedPin.{JoinedPin}
 use Rattle.eco_elaborate.specs.declared.stated_joint.StatedJoint.{StatedJoint}
-use Rattle.eco_elaborate.specs.Stated.{named_net, named_nets, pins_on, all_pins_on}
+use Rattle.eco_elaborate.specs.Stated.{named_net, named_nets, stated_pins, all_pins_on}
 use Rattle.eco_elaborate.specs.Stages.{stated_joints, FindsPins, FindsOrWaits}
 use Rattle.eco_elaborate.proofs.FindingPins.{no_pins_found, pins_more, has_of_take, all_pins_more}
 use Rattle.eco_elaborate.proofs.Stating.{same_pins}
@@ -58,11 +58,11 @@ module _ (powered : Name → Name → Bool) (text : List ℕ) (L : Listing) wher
   }
 
   pub statement_waits : (ss : List NetStatement) (i : ℕ) (s : NetStatement) → i < length ss → s ≡ get_or ss i s → (found : List JoinedPin) (old new : List StatedJoint) →
-      FindsOrWaits powered text L (all_pins_on (named_nets text (take i ss))) found old → stated_joints text L.nets new ≡ stated_joints text L.nets old ++ pins_on (named_net text s) →
+      FindsOrWaits powered text L (all_pins_on (named_nets text (take i ss))) found old → stated_joints text L.nets new ≡ stated_joints text L.nets old ++ stated_pins (named_net text s) →
       ((s : StatedJoint) → Contains new s → Contains old s ⊎ (s.net.0 < length L.nets)) → FindsOrWaits powered text L (all_pins_on (named_nets text (take (i + 1) ss))) found new
   statement_waits ss i s h is found old new w e nets =
       subst (λ (js : List NewJoint). FindsOrWaits powered text L js found new) (sym (all_pins_more text ss i s h is))
-      (more_wait (all_pins_on (named_nets text (take i ss))) (pins_on (named_net text s)) found old new w e nets)
+      (more_wait (all_pins_on (named_nets text (take i ss))) (stated_pins (named_net text s)) found old new w e nets)
 
   pub all_settled : (js : List NewJoint) (old new : List JoinedPin) (waiting left : List StatedJoint) → FindsOrWaits powered text L js old waiting → FindsPins powered L (stated_joints text L.nets waiting) old new → left ≡ [] →
       FindsOrWaits powered text L js new left

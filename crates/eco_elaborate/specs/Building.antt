@@ -3,12 +3,12 @@ use Rattle.std.specs.Prelude.{◌≡◌, ◌≢◌, ◌⊎◌, true, false, not,
 use Rattle.std.specs.List.{Contains, find}
 use Rattle.std.specs.Option.{option_map}
 use Rattle.eco_def.specs.Named.{NamedComp, NamedJoint, NamedNet, NamedDesign}
-use Rattle.eco_issued_laws.specs.Changes.{is_no_component}
+use Rattle.eco_issued_laws.specs.Changes.{is_no_component, statements}
 use Rattle.eco_net.specs.Netlist.{Name, Kind, Netlist}
 use Rattle.eco_net.specs.Listing.{Listing, netlist}
 use Rattle.eco_elaborate.specs.declared.fault.DesignFault.{DesignFault}
 use Rattle.eco_elaborate.specs.declared.fault.DesignFault.TheVariants.{UnknownMacro, UnknownPin, PinNetDiffers, SupplyDiffers, Memory}
-use Rattle.eco_elaborate.specs.Netlists.{Kinds, Powers, statements, pin_names, netlist_of}
+use Rattle.eco_elaborate.specs.Netlists.{Kinds, Powers, kind_pins, netlist_of}
 use Rattle.eco_elaborate.specs.Described.{IsOn, IsSupply, IsConsistent}
 use Rattle.eco_elaborate.specs.Stated.{supply_among}
 use Rattle.eco_elaborate.specs.Stages.{keeps_value}
@@ -19,8 +19,8 @@ pub record IsPinOf (kinds : Kinds) (d : NamedDesign) (comp pin : Name) : Type 0 
   pub kind : Kind
   pub found : Contains d.comps of
   pub same : of.name ≡ comp
-  pub known : kinds of.model ≡ Some kind
-  pub has : Contains (pin_names kind) pin
+  pub known : kinds.kind of.model ≡ Some kind
+  pub has : Contains (kind_pins kind) pin
 
 -- a component of the design has this name, and its macro has the pin as a supply pin
 pub record IsSupplyPinOf (powers : Powers) (d : NamedDesign) (comp pin : Name) : Type 0 where
@@ -33,7 +33,7 @@ pub record IsSupplyPinOf (powers : Powers) (d : NamedDesign) (comp pin : Name) :
 -- or of one of its supply pins. No pin stands on two nets, supply pins aside, and no net is a supply of two values. So the
 -- design has one netlist, and this is it, but for tie nets.
 pub record IsListed (kinds : Kinds) (powers : Powers) (d : NamedDesign) (N : Netlist) : Type 0 where
-  pub models : (c : NamedComp) → Contains d.comps c → (k : Kind) × (kinds c.model ≡ Some k)
+  pub models : (c : NamedComp) → Contains d.comps c → (k : Kind) × (kinds.kind c.model ≡ Some k)
   pub joints : (s : NamedNet) (j : NamedJoint) → Contains (statements d) s → Contains s.joints j → is_no_component j.comp ≡ false → IsPinOf kinds d j.comp j.pin ⊎ IsSupplyPinOf powers d j.comp j.pin
   pub one_net : (c p n m : Name) → IsPinOf kinds d c p → IsOn d c p n → IsOn d c p m → n ≡ m
   pub consistent : IsConsistent kinds d
@@ -42,7 +42,7 @@ pub record IsListed (kinds : Kinds) (powers : Powers) (d : NamedDesign) (N : Net
 -- ---- why there is none
 
 abbrev pub HasUnknownMacro : Kinds → NamedDesign → Type 0
-HasUnknownMacro kinds d = (c : NamedComp) × Contains d.comps c × (kinds c.model ≡ None)
+HasUnknownMacro kinds d = (c : NamedComp) × Contains d.comps c × (kinds.kind c.model ≡ None)
 
 -- a joint is neither of a pin of a component nor of one of its supply pins
 abbrev pub HasUnknownPin : Kinds → Powers → NamedDesign → Type 0

@@ -6,3 +6,4 @@ pub mod Stated
 pub mod Building
 pub mod Stages
 pub mod ReadingBack
+pub mod Centres

@@ -18,13 +18,13 @@ use Rattle.eco_elaborate.specs.Joinable.{CanJoin}
 
 -- ---- the issued text for a netlist
 
-abbrev pub is_net : Option Name → Name → Bool
-is_net None n = false
-is_net (Some m) n = bytes_eq m n
+abbrev pub is_named_net : Option Name → Name → Bool
+is_named_net None n = false
+is_named_net (Some m) n = bytes_eq m n
 
 -- the pin is on that net
 abbrev pub is_joined : Netlist → NewJoint → Bool
-is_joined N j = is_net (net_of N (CompPin j.comp j.pin)) j.net
+is_joined N j = is_named_net (net_of N (CompPin j.comp j.pin)) j.net
 
 -- the pins of a component that are on nets
 abbrev pub pins_of_comp : Name × Component → List NewJoint

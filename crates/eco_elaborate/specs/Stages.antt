@@ -26,7 +26,7 @@ use Rattle.eco_elaborate.specs.declared.fault.DesignFault.{DesignFault}
 use Rattle.eco_elaborate.specs.declared.fault.DesignFault.TheVariants.{UnknownMacro, UnknownPin, PinNetDiffers, SupplyDiffers, Memory}
 use Rattle.eco_elaborate.specs.declared.joined_pin.JoinedPin.{JoinedPin}
 use Rattle.eco_elaborate.specs.declared.stated_joint.StatedJoint.{StatedJoint}
-use Rattle.eco_elaborate.specs.Netlists.{Kinds, Powers, supply_by, top_of}
+use Rattle.eco_elaborate.specs.Netlists.{Kinds, Powers, centre_in, supply_by, top_of}
 use Rattle.eco_net.specs.Joints.{IsRewired, OneNetEach}
 use Rattle.eco_text.specs.Cursor.{word_bytes}
 use Rattle.eco_elaborate.specs.Stated.{named_net, named_pin, named_comps, named_pins}
@@ -34,8 +34,8 @@ use Rattle.eco_elaborate.specs.Stated.{named_net, named_pin, named_comps, named_
 -- ---- supplies
 
 -- the value of a net by a map of supplies
-abbrev pub value_of : HashMap (Bor (List ℕ)) Bool (BuildHasherDefault FoldHasher) → Name → Option Bool
-value_of values n = get_by (λ k. bytes_eq n k.now) values
+abbrev pub supply_value : HashMap (Bor (List ℕ)) Bool (BuildHasherDefault FoldHasher) → Name → Option Bool
+supply_value values n = get_by (λ k. bytes_eq n k.now) values
 
 -- the first of two values is none, or the second says no other
 abbrev pub agree : Option Bool → Option Bool → Bool
@@ -61,20 +61,20 @@ pub record AddsNets (value : Name → Option Bool) (names : List Name) (L M : Li
 
 -- ---- components
 
--- the component by its macro and its place, with its pins unconnected
-pub record IsOffNets (kinds : Kinds) (c : NamedComp) (x : Component) : Type 0 where
-  pub kind : kinds c.model ≡ Some x.kind
-  pub place : x.place ≡ option_map (λ p. p.point) c.place
+-- the component by its macro and its doubled centre, with its pins unconnected
+pub record IsOffNets (kinds : Kinds) (units : ℕ) (c : NamedComp) (x : Component) : Type 0 where
+  pub kind : kinds.kind c.model ≡ Some x.kind
+  pub place : x.place ≡ centre_in kinds units c
   pub joined : x.joined ≡ empty
 
 -- the components are these, with their pins unconnected
-pub record CompsAre (kinds : Kinds) (cs : List NamedComp) (N : Netlist) : Type 0 where
-  pub each : (c : NamedComp) → Contains cs c → (x : Component) × (get N.comps c.name ≡ Some x) × IsOffNets kinds c x
-  pub only : (n : Name) (x : Component) → get N.comps n ≡ Some x → (c : NamedComp) × Contains cs c × (c.name ≡ n) × IsOffNets kinds c x
+pub record CompsAre (kinds : Kinds) (units : ℕ) (cs : List NamedComp) (N : Netlist) : Type 0 where
+  pub each : (c : NamedComp) → Contains cs c → (x : Component) × (get N.comps c.name ≡ Some x) × IsOffNets kinds units c x
+  pub only : (n : Name) (x : Component) → get N.comps n ≡ Some x → (c : NamedComp) × Contains cs c × (c.name ≡ n) × IsOffNets kinds units c x
 
 -- these components are added, with their pins unconnected
-pub record AddsComps (kinds : Kinds) (cs : List NamedComp) (L M : Listing) : Type 0 where
-  pub comps : (before : List NamedComp) → CompsAre kinds before (netlist L) → CompsAre kinds (before ++ cs) (netlist M)
+pub record AddsComps (kinds : Kinds) (units : ℕ) (cs : List NamedComp) (L M : Listing) : Type 0 where
+  pub comps : (before : List NamedComp) → CompsAre kinds units before (netlist L) → CompsAre kinds units (before ++ cs) (netlist M)
   pub others : netlist M ≡ record (netlist L) { comps = (netlist M).comps }
   pub rows : M ≡ record L { comps = M.comps }
   pub names : comp_names M ≡ comp_names L ++ map (λ c. c.name) cs
@@ -82,7 +82,7 @@ pub record AddsComps (kinds : Kinds) (cs : List NamedComp) (L M : Listing) : Typ
 
 -- a component's macro isn't known, or memory ran out
 abbrev pub MacroFault : Kinds → List NamedComp → DesignFault → Type 0
-MacroFault kinds cs UnknownMacro = (c : NamedComp) × Contains cs c × (kinds c.model ≡ None)
+MacroFault kinds cs UnknownMacro = (c : NamedComp) × Contains cs c × (kinds.kind c.model ≡ None)
 MacroFault kinds cs UnknownPin = ⊥
 MacroFault kinds cs PinNetDiffers = ⊥
 MacroFault kinds cs SupplyDiffers = ⊥
@@ -103,9 +103,9 @@ pub record AddsTops (ps : List NamedPin) (L M : Listing) : Type 0 where
 
 -- ---- pins on nets
 
-abbrev pub comp_name : Option CompRow → Name
-comp_name None = []
-comp_name (Some r) = r.name
+abbrev pub row_name : Option CompRow → Name
+row_name None = []
+row_name (Some r) = r.name
 
 abbrev pub pin_name : Option CompRow → ℕ → Name
 pin_name None k = []
@@ -113,7 +113,7 @@ pin_name (Some r) k = unwrap_or (option_map (λ p. p.0) (slice_get (pins r) k)) 
 
 -- the pin and its net, by names
 abbrev pub joint_of : Listing → JoinedPin → NewJoint
-joint_of L p = record { comp = comp_name (slice_get L.comps p.comp.0); pin = pin_name (slice_get L.comps p.comp.0) p.pin; net = net_name L.nets p.net.0 }
+joint_of L p = record { comp = row_name (slice_get L.comps p.comp.0); pin = pin_name (slice_get L.comps p.comp.0) p.pin; net = net_name L.nets p.net.0 }
 
 abbrev pub joints_of : Listing → List JoinedPin → List NewJoint
 joints_of L ps = map (joint_of L) ps
@@ -125,7 +125,7 @@ IsKnownJoint L p = IsKnownPin L (Pin p.comp p.pin) × (p.net.0 < length L.nets)
 -- the pin of these names: its component and its number
 abbrev pub FindsPinOf : Listing → Name → Name → Option (CompId × ℕ) → Type 0
 FindsPinOf L comp pin None = (x : Component) → get (netlist L).comps comp ≡ Some x → IsPin x pin → ⊥
-FindsPinOf L comp pin (Some f) = IsKnownPin L (Pin f.0 f.1) × (comp_name (slice_get L.comps f.0.0) ≡ comp) × (pin_name (slice_get L.comps f.0.0) f.1 ≡ pin)
+FindsPinOf L comp pin (Some f) = IsKnownPin L (Pin f.0 f.1) × (row_name (slice_get L.comps f.0.0) ≡ comp) × (pin_name (slice_get L.comps f.0.0) f.1 ≡ pin)
 
 -- one of these components has the name, and its macro has the pin as a supply pin
 abbrev pub has_supply_pin : Powers → List NamedComp → Name → Name → Bool
@@ -221,20 +221,20 @@ JoinFault js Memory = Unit {0}
 -- ---- a whole design
 
 -- the names of the nets, of statements in the order of the text and of the design's own pins
-abbrev pub net_names : List ℕ → Design → List Name
-net_names text d = map (λ s. (named_net text s).name) d.nets ++ map (λ p. (named_pin text p).net) d.pins
+abbrev pub design_net_names : List ℕ → Design → List Name
+design_net_names text d = map (λ s. (named_net text s).name) d.nets ++ map (λ p. (named_pin text p).net) d.pins
 
 -- the nets are listed, and nothing else
 pub record NetsListed (value : Name → Option Bool) (text : List ℕ) (d : Design) (L : Listing) : Type 0 where
-  pub nets : NetsAre value (net_names text d) (netlist L)
+  pub nets : NetsAre value (design_net_names text d) (netlist L)
   pub others : netlist L ≡ record empty_netlist { nets = (netlist L).nets }
   pub no_comps : L.comps ≡ []
   pub no_tops : L.tops ≡ []
 
 -- all is listed, with the components' pins unconnected
 pub record PartsListed (kinds : Kinds) (value : Name → Option Bool) (text : List ℕ) (d : Design) (L : Listing) : Type 0 where
-  pub nets : NetsAre value (net_names text d) (netlist L)
-  pub comps : CompsAre kinds (named_comps text d.comps) (netlist L)
+  pub nets : NetsAre value (design_net_names text d) (netlist L)
+  pub comps : CompsAre kinds d.units (named_comps text d.comps) (netlist L)
   pub numbers : comp_names L ≡ map (λ c. c.name) (named_comps text d.comps)
   pub tops : TopsAre (named_pins text d.pins) (netlist L)
   pub ties : (netlist L).ties ≡ set.empty

@@ -44,16 +44,16 @@ abbrev pub supply_among : List NamedNet → Name → Option Bool
 supply_among ss n = first_some (map (λ s. supply_by s.usage) (filter (λ s. bytes_eq s.name n) ss))
 
 -- the joint as that of a pin on its net
-abbrev pub on_net : Name → NamedJoint → NewJoint
-on_net n j = record { comp = j.comp; pin = j.pin; net = n }
+abbrev pub joint_on_net : Name → NamedJoint → NewJoint
+joint_on_net n j = record { comp = j.comp; pin = j.pin; net = n }
 
 -- the pins of components that joints put on a net, PIN and * aside
 abbrev pub pins_among : Name → List NamedJoint → List NewJoint
-pins_among n js = map (on_net n) (filter (λ j. not (is_no_component j.comp)) js)
+pins_among n js = map (joint_on_net n) (filter (λ j. not (is_no_component j.comp)) js)
 
 -- the pins of components that a statement puts on its net
-abbrev pub pins_on : NamedNet → List NewJoint
-pins_on s = pins_among s.name s.joints
+abbrev pub stated_pins : NamedNet → List NewJoint
+stated_pins s = pins_among s.name s.joints
 
 abbrev pub all_pins_on : List NamedNet → List NewJoint
-all_pins_on ss = flat_map pins_on ss
+all_pins_on ss = flat_map stated_pins ss

@@ -12,7 +12,7 @@ ghost use Rattle.eco_net.specs.Listing.{netlist, net_names, net_name, comp_names
 ghost use Rattle.eco_elaborate.specs.declared.fault.DesignFault.TheVariants.{UnknownPin as Unknown};
 ghost use Rattle.eco_elaborate.specs.declared.stated_joint.StatedJoint.{StatedJoint as Stated};
 ghost use Rattle.eco_text.specs.Cursor.{word_bytes};
-ghost use Rattle.eco_elaborate.specs.Stated.{named_comps, named_joint, named_net, named_nets, pins_among, pins_on, all_pins_on};
+ghost use Rattle.eco_elaborate.specs.Stated.{named_comps, named_joint, named_net, named_nets, pins_among, stated_pins, all_pins_on};
 ghost use Rattle.eco_elaborate.specs.Stages.{has_supply_pin, stated_joint, stated_joints, FindsPinOf, FindsJoint, IsUnknownJoint, FindsPins, FindsOrWaits, PinFault};
 
 use crate::fault::DesignFault;
@@ -28,6 +28,15 @@ use std::alloc::Global;
 
 /// So many joints wait for their components to be looked up together.
 const MANY: usize = 512;
+
+/// What joints are looked up in: what is listed, the text with its components, and what the macros are.
+#[derive(Drop)]
+struct PinLookup<'a, M> {
+    maker: &'a NetlistMaker,
+    text: &'a [u8],
+    comps: &'a [Comp],
+    macros: &'a M,
+}
 
 /// The pin of a name of the component of a name, which was looked up.
 fn find_pin(
@@ -51,43 +60,39 @@ fn find_pin(
 
 /// Whether the macro of a joint's component, which was looked up, has the joint's pin as a supply pin.
 fn is_supply_pin<M: Macros>(
-    maker: &NetlistMaker,
-    text: &[u8],
-    comps: &[Comp],
-    macros: &M,
+    lookup: &PinLookup<'_, M>,
     joint: &StatedJoint,
     comp: Option<FoundComp>,
 ) -> bool
-    requires numbers { comp_names maker.now ≡ map (λ c. c.name) (named_comps text.now comps.now) }
-    requires comp { FindsComp maker.now (word_bytes text.now joint.now.comp) comp }
-    ensures { result ≡ has_supply_pin (M.powers macros.now) (named_comps text.now comps.now) (word_bytes text.now joint.now.comp) (word_bytes text.now joint.now.pin) }
+    requires numbers { comp_names lookup.now.maker.now ≡ map (λ c. c.name) (named_comps lookup.now.text.now lookup.now.comps.now) }
+    requires comp { FindsComp lookup.now.maker.now (word_bytes lookup.now.text.now joint.now.comp) comp }
+    ensures { result ≡ has_supply_pin (M.powers lookup.now.macros.now) (named_comps lookup.now.text.now lookup.now.comps.now) (word_bytes lookup.now.text.now joint.now.comp) (word_bytes lookup.now.text.now joint.now.pin) }
 {
-    maker.facts();
+    lookup.maker.facts();
     match comp {
         None => false,
         Some(comp) => {
-            let model = bytes_at(text, comps[comp.id.0 as usize].model);
-            macros.is_supply(model, bytes_at(text, joint.pin))
+            let model = bytes_at(lookup.text, lookup.comps[comp.id.0 as usize].model);
+            lookup
+                .macros
+                .is_supply(model, bytes_at(lookup.text, joint.pin))
         }
     }
 }
 
 /// The pin that a joint names, or none for a supply pin.
 fn find_joint<M: Macros>(
-    maker: &NetlistMaker,
-    text: &[u8],
-    comps: &[Comp],
-    macros: &M,
+    lookup: &PinLookup<'_, M>,
     joint: &StatedJoint,
     comp: Option<FoundComp>,
 ) -> Result<Option<(CompId, u32)>, DesignFault>
-    requires numbers { comp_names maker.now ≡ map (λ c. c.name) (named_comps text.now comps.now) }
-    requires comp { FindsComp maker.now (word_bytes text.now joint.now.comp) comp }
-    ensures ok { IfOk result (FindsJoint (has_supply_pin (M.powers macros.now) (named_comps text.now comps.now)) maker.now (word_bytes text.now joint.now.comp) (word_bytes text.now joint.now.pin)) }
-    ensures err { IfErr result (λ e. (e ≡ Unknown) × IsUnknownJoint (has_supply_pin (M.powers macros.now) (named_comps text.now comps.now)) (netlist maker.now) (word_bytes text.now joint.now.comp) (word_bytes text.now joint.now.pin)) }
+    requires numbers { comp_names lookup.now.maker.now ≡ map (λ c. c.name) (named_comps lookup.now.text.now lookup.now.comps.now) }
+    requires comp { FindsComp lookup.now.maker.now (word_bytes lookup.now.text.now joint.now.comp) comp }
+    ensures ok { IfOk result (FindsJoint (has_supply_pin (M.powers lookup.now.macros.now) (named_comps lookup.now.text.now lookup.now.comps.now)) lookup.now.maker.now (word_bytes lookup.now.text.now joint.now.comp) (word_bytes lookup.now.text.now joint.now.pin)) }
+    ensures err { IfErr result (λ e. (e ≡ Unknown) × IsUnknownJoint (has_supply_pin (M.powers lookup.now.macros.now) (named_comps lookup.now.text.now lookup.now.comps.now)) (netlist lookup.now.maker.now) (word_bytes lookup.now.text.now joint.now.comp) (word_bytes lookup.now.text.now joint.now.pin)) }
 {
-    let found = find_pin(maker, text, joint, comp);
-    if found.is_some() || is_supply_pin(maker, text, comps, macros, joint, comp) {
+    let found = find_pin(lookup.maker, lookup.text, joint, comp);
+    if found.is_some() || is_supply_pin(lookup, joint, comp) {
         Ok(found)
     } else {
         Err(DesignFault::UnknownPin)
@@ -97,21 +102,18 @@ fn find_joint<M: Macros>(
 /// Adds the pin that a joint puts on a net, if it names one.
 fn add_joint<M: Macros>(
     pins: &mut Vec<JoinedPin>,
-    maker: &NetlistMaker,
-    text: &[u8],
-    comps: &[Comp],
-    macros: &M,
+    lookup: &PinLookup<'_, M>,
     joint: &StatedJoint,
     comp: Option<FoundComp>,
 ) -> Result<(), DesignFault>
-    requires numbers { comp_names maker.now ≡ map (λ c. c.name) (named_comps text.now comps.now) }
-    requires comp { FindsComp maker.now (word_bytes text.now joint.now.comp) comp }
-    requires net { joint.now.net.0 < length maker.now.nets }
-    ensures ok { OnOk result (FindsPins (has_supply_pin (M.powers macros.now) (named_comps text.now comps.now)) maker.now (stated_joint text.now maker.now.nets joint.now ∷ []) pins.old.items pins.new.items) }
-    ensures err { IfErr result (PinFault (has_supply_pin (M.powers macros.now) (named_comps text.now comps.now)) (netlist maker.now) (stated_joint text.now maker.now.nets joint.now ∷ [])) }
+    requires numbers { comp_names lookup.now.maker.now ≡ map (λ c. c.name) (named_comps lookup.now.text.now lookup.now.comps.now) }
+    requires comp { FindsComp lookup.now.maker.now (word_bytes lookup.now.text.now joint.now.comp) comp }
+    requires net { joint.now.net.0 < length lookup.now.maker.now.nets }
+    ensures ok { OnOk result (FindsPins (has_supply_pin (M.powers lookup.now.macros.now) (named_comps lookup.now.text.now lookup.now.comps.now)) lookup.now.maker.now (stated_joint lookup.now.text.now lookup.now.maker.now.nets joint.now ∷ []) pins.old.items pins.new.items) }
+    ensures err { IfErr result (PinFault (has_supply_pin (M.powers lookup.now.macros.now) (named_comps lookup.now.text.now lookup.now.comps.now)) (netlist lookup.now.maker.now) (stated_joint lookup.now.text.now lookup.now.maker.now.nets joint.now ∷ [])) }
 {
-    maker.facts();
-    if let Some((comp, pin)) = find_joint(maker, text, comps, macros, joint, comp)? {
+    lookup.maker.facts();
+    if let Some((comp, pin)) = find_joint(lookup, joint, comp)? {
         let net = joint.net;
         pins.push(JoinedPin { comp, pin, net })?;
     }
@@ -121,21 +123,18 @@ fn add_joint<M: Macros>(
 /// Adds the pins that joints put on nets. Their components were looked up.
 fn add_joints<M: Macros>(
     pins: &mut Vec<JoinedPin>,
-    maker: &NetlistMaker,
-    text: &[u8],
-    comps: &[Comp],
-    macros: &M,
+    lookup: &PinLookup<'_, M>,
     joints: &[StatedJoint],
     found: &[Option<FoundComp>],
 ) -> Result<(), DesignFault>
-    requires numbers { comp_names maker.now ≡ map (λ c. c.name) (named_comps text.now comps.now) }
-    requires found { AllZip (λ j c. FindsComp maker.now (word_bytes text.now j.comp) c) joints.now found.now }
-    requires nets { (s : Stated) → Contains joints.now s → s.net.0 < length maker.now.nets }
-    ensures ok { OnOk result (FindsPins (has_supply_pin (M.powers macros.now) (named_comps text.now comps.now)) maker.now (stated_joints text.now maker.now.nets joints.now) pins.old.items pins.new.items) }
-    ensures err { IfErr result (PinFault (has_supply_pin (M.powers macros.now) (named_comps text.now comps.now)) (netlist maker.now) (stated_joints text.now maker.now.nets joints.now)) }
+    requires numbers { comp_names lookup.now.maker.now ≡ map (λ c. c.name) (named_comps lookup.now.text.now lookup.now.comps.now) }
+    requires found { AllZip (λ j c. FindsComp lookup.now.maker.now (word_bytes lookup.now.text.now j.comp) c) joints.now found.now }
+    requires nets { (s : Stated) → Contains joints.now s → s.net.0 < length lookup.now.maker.now.nets }
+    ensures ok { OnOk result (FindsPins (has_supply_pin (M.powers lookup.now.macros.now) (named_comps lookup.now.text.now lookup.now.comps.now)) lookup.now.maker.now (stated_joints lookup.now.text.now lookup.now.maker.now.nets joints.now) pins.old.items pins.new.items) }
+    ensures err { IfErr result (PinFault (has_supply_pin (M.powers lookup.now.macros.now) (named_comps lookup.now.text.now lookup.now.comps.now)) (netlist lookup.now.maker.now) (stated_joints lookup.now.text.now lookup.now.maker.now.nets joints.now)) }
 {
     for (at, joint) in joints.iter().enumerate() {
-        add_joint(pins, maker, text, comps, macros, joint, found[at])?;
+        add_joint(pins, lookup, joint, found[at])?;
     }
     Ok(())
 }
@@ -159,21 +158,18 @@ fn comp_names_of<'t>(
 fn settle<M: Macros>(
     alloc: Global,
     pins: &mut Vec<JoinedPin>,
-    maker: &NetlistMaker,
-    text: &[u8],
-    comps: &[Comp],
-    macros: &M,
+    lookup: &PinLookup<'_, M>,
     waiting: &mut Vec<StatedJoint>,
 ) -> Result<(), DesignFault>
-    requires numbers { comp_names maker.now ≡ map (λ c. c.name) (named_comps text.now comps.now) }
-    requires nets { (s : Stated) → Contains waiting.old.items s → s.net.0 < length maker.now.nets }
+    requires numbers { comp_names lookup.now.maker.now ≡ map (λ c. c.name) (named_comps lookup.now.text.now lookup.now.comps.now) }
+    requires nets { (s : Stated) → Contains waiting.old.items s → s.net.0 < length lookup.now.maker.now.nets }
     ensures none { OnOk result (waiting.new.items ≡ []) }
-    ensures ok { OnOk result (FindsPins (has_supply_pin (M.powers macros.now) (named_comps text.now comps.now)) maker.now (stated_joints text.now maker.now.nets waiting.old.items) pins.old.items pins.new.items) }
-    ensures err { IfErr result (PinFault (has_supply_pin (M.powers macros.now) (named_comps text.now comps.now)) (netlist maker.now) (stated_joints text.now maker.now.nets waiting.old.items)) }
+    ensures ok { OnOk result (FindsPins (has_supply_pin (M.powers lookup.now.macros.now) (named_comps lookup.now.text.now lookup.now.comps.now)) lookup.now.maker.now (stated_joints lookup.now.text.now lookup.now.maker.now.nets waiting.old.items) pins.old.items pins.new.items) }
+    ensures err { IfErr result (PinFault (has_supply_pin (M.powers lookup.now.macros.now) (named_comps lookup.now.text.now lookup.now.comps.now)) (netlist lookup.now.maker.now) (stated_joints lookup.now.text.now lookup.now.maker.now.nets waiting.old.items)) }
 {
-    let names = comp_names_of(alloc, text, waiting)?;
-    let found = maker.find_comps(alloc, &names)?;
-    add_joints(pins, maker, text, comps, macros, waiting, &found)?;
+    let names = comp_names_of(alloc, lookup.text, waiting)?;
+    let found = lookup.maker.find_comps(alloc, &names)?;
+    add_joints(pins, lookup, waiting, &found)?;
     waiting.clear();
     Ok(())
 }
@@ -238,7 +234,7 @@ fn add_statement(
 ) -> Result<NetId, Memory>
     requires { IsNet (netlist maker.now) (named_net text.now net.now).name }
     ensures number { IfOk result (λ n. slice_get (net_names maker.now) n.0 ≡ Some (named_net text.now net.now).name) }
-    ensures joints { OnOk result (stated_joints text.now maker.now.nets waiting.new.items ≡ stated_joints text.now maker.now.nets waiting.old.items ++ pins_on (named_net text.now net.now)) }
+    ensures joints { OnOk result (stated_joints text.now maker.now.nets waiting.new.items ≡ stated_joints text.now maker.now.nets waiting.old.items ++ stated_pins (named_net text.now net.now)) }
     ensures nets { OnOk result ((s : Stated) → Contains waiting.new.items s → Contains waiting.old.items s ⊎ (s.net.0 < length maker.now.nets)) }
 {
     let number = number_of(maker, bytes_at(text, net.name), guess);
@@ -250,21 +246,18 @@ fn add_statement(
 fn settle_many<M: Macros>(
     alloc: Global,
     pins: &mut Vec<JoinedPin>,
-    maker: &NetlistMaker,
-    text: &[u8],
-    comps: &[Comp],
-    macros: &M,
+    lookup: &PinLookup<'_, M>,
     waiting: &mut Vec<StatedJoint>,
 ) -> Result<(), DesignFault>
-    requires numbers { comp_names maker.now ≡ map (λ c. c.name) (named_comps text.now comps.now) }
-    requires nets { (s : Stated) → Contains waiting.old.items s → s.net.0 < length maker.now.nets }
-    ensures ok { OnOk result ((js : List NewJoint) → FindsOrWaits (has_supply_pin (M.powers macros.now) (named_comps text.now comps.now)) text.now maker.now js pins.old.items waiting.old.items → FindsOrWaits (has_supply_pin (M.powers macros.now) (named_comps text.now comps.now)) text.now maker.now js pins.new.items waiting.new.items) }
-    ensures err { IfErr result (PinFault (has_supply_pin (M.powers macros.now) (named_comps text.now comps.now)) (netlist maker.now) (stated_joints text.now maker.now.nets waiting.old.items)) }
+    requires numbers { comp_names lookup.now.maker.now ≡ map (λ c. c.name) (named_comps lookup.now.text.now lookup.now.comps.now) }
+    requires nets { (s : Stated) → Contains waiting.old.items s → s.net.0 < length lookup.now.maker.now.nets }
+    ensures ok { OnOk result ((js : List NewJoint) → FindsOrWaits (has_supply_pin (M.powers lookup.now.macros.now) (named_comps lookup.now.text.now lookup.now.comps.now)) lookup.now.text.now lookup.now.maker.now js pins.old.items waiting.old.items → FindsOrWaits (has_supply_pin (M.powers lookup.now.macros.now) (named_comps lookup.now.text.now lookup.now.comps.now)) lookup.now.text.now lookup.now.maker.now js pins.new.items waiting.new.items) }
+    ensures err { IfErr result (PinFault (has_supply_pin (M.powers lookup.now.macros.now) (named_comps lookup.now.text.now lookup.now.comps.now)) (netlist lookup.now.maker.now) (stated_joints lookup.now.text.now lookup.now.maker.now.nets waiting.old.items)) }
 {
     if waiting.len() < MANY {
         return Ok(());
     }
-    settle(alloc, pins, maker, text, comps, macros, waiting)
+    settle(alloc, pins, lookup, waiting)
 }
 
 /// The pins that statements put on their nets, all of which are listed. Supply pins are passed over. The components are
@@ -282,14 +275,20 @@ pub fn find_pins<M: Macros>(
     ensures ok { IfOk result (λ pins. FindsPins (has_supply_pin (M.powers macros.now) (named_comps text.now comps.now)) maker.now (all_pins_on (named_nets text.now nets.now)) [] pins.items) }
     ensures err { IfErr result (PinFault (has_supply_pin (M.powers macros.now) (named_comps text.now comps.now)) (netlist maker.now) (all_pins_on (named_nets text.now nets.now))) }
 {
+    let lookup = PinLookup {
+        maker,
+        text,
+        comps,
+        macros,
+    };
     let mut pins = Vec::new(alloc);
     let mut waiting = Vec::new(alloc);
     let mut guess = NetId(0);
     for net in nets {
         let number = add_statement(&mut waiting, maker, text, net, guess)?;
-        settle_many(alloc, &mut pins, maker, text, comps, macros, &mut waiting)?;
+        settle_many(alloc, &mut pins, &lookup, &mut waiting)?;
         guess = NetId(number.0.wrapping_add(1));
     }
-    settle(alloc, &mut pins, maker, text, comps, macros, &mut waiting)?;
+    settle(alloc, &mut pins, &lookup, &mut waiting)?;
     Ok(pins)
 }

@@ -3,16 +3,17 @@
 ghost use Rattle.eco_elaborate.specs.Laws.{
   ApartIs,
   CanJoinIs,
-  ComponentsStay,
+  IssuingKeepsComponents,
   IssuedIs,
   NetlistIs,
-  NetlistWhole,
+  NetlistWellFormed,
   NoneUnnamed,
   NothingMoves,
+  PlacesAreCentres,
   ReadOnce,
   RewiredIs,
   StillConsistent,
-  StillWhole,
+  StillWellFormed,
   TwoValuedIs,
 };
 ghost use Rattle.eco_elaborate.specs.ReadingBack.{IssuedReadsBack, OwnText};
@@ -22,14 +23,14 @@ pub fn read_once()
     ensures { ReadOnce }
 {}
 
-/// A law: a consistent design has the netlist that its statements tell, and no other.
+/// A law: a consistent design has the netlist that its statements describe, and no other.
 pub fn netlist_is()
     ensures { NetlistIs }
 {}
 
-/// A law: the netlist of a design is whole.
-pub fn netlist_whole()
-    ensures { NetlistWhole }
+/// A law: the netlist of a design is well-formed.
+pub fn netlist_well_formed()
+    ensures { NetlistWellFormed }
 {}
 
 /// A law: a component that is named `PIN` or `*` has no pin on a net, since no joint can name it.
@@ -47,9 +48,9 @@ pub fn rewired_is()
     ensures { RewiredIs }
 {}
 
-/// A law: a whole netlist stays whole where pins are put on nets.
-pub fn still_whole()
-    ensures { StillWhole }
+/// A law: a well-formed netlist stays well-formed where pins are put on nets.
+pub fn still_well_formed()
+    ensures { StillWellFormed }
 {}
 
 /// A law: what can be joined in a design can be joined in its netlist, and nothing else can.
@@ -80,7 +81,7 @@ pub fn still_consistent()
 
 /// A law: issuing leaves the components with their models and places, and the design's own pins, as they are.
 pub fn components_stay()
-    ensures { ComponentsStay }
+    ensures { IssuingKeepsComponents }
 {}
 
 /// A law: where no pin moves and no net is new, the design is issued as it is.
@@ -92,4 +93,10 @@ pub fn nothing_moves()
 /// net of the first that does has both.
 pub fn two_valued_is()
     ensures { TwoValuedIs }
+{}
+
+/// A law: the places of a design that was read are doubled centres, which lie in their range, where no macro is wider or
+/// higher than 10,000 microns.
+pub fn places_are_centres()
+    ensures { PlacesAreCentres }
 {}

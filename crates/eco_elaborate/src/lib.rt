@@ -1,6 +1,7 @@
 //! The netlist of a design: what it is, how it is listed, and what becomes of it where pins are put on other nets.
 #![tactic(auto)]
 
+mod centres;
 mod fault;
 mod found_pins;
 mod joined_pin;
@@ -17,8 +18,8 @@ mod supplies;
 pub use crate::fault::DesignFault;
 pub use crate::laws::{
     apart_is, can_join_is, components_stay, issued_is, issued_reads_back, netlist_is,
-    netlist_whole, none_unnamed, nothing_moves, own_text, read_once, rewired_is, still_consistent,
-    still_whole, two_valued_is,
+    netlist_well_formed, none_unnamed, nothing_moves, own_text, places_are_centres, read_once,
+    rewired_is, still_consistent, still_well_formed, two_valued_is,
 };
 pub use crate::listing::list_numbered;
 pub use crate::macros::Macros;

@@ -3,7 +3,7 @@
 ghost use Rattle.std.specs.Prelude.{◌≡◌, ◌+◌, ◌<◌, ◌≤◌, [], ◌∷◌, map, length, Bool, Option, OnOk};
 ghost use Rattle.eco_net.specs.Netlist.{Name};
 ghost use Rattle.eco_elaborate.specs.Stated.{named_net, named_pin};
-ghost use Rattle.eco_elaborate.specs.Stages.{value_of, AddsNets};
+ghost use Rattle.eco_elaborate.specs.Stages.{supply_value, AddsNets};
 
 use crate::supplies::{Supplies, supply_of};
 use eco_common::{MAX_LISTED_NETS, Memory};
@@ -41,7 +41,7 @@ pub fn add_stated_nets(
     supplies: &Supplies<'_>,
 ) -> Result<(), Memory>
     requires few { length maker.old.nets + length nets.now ≤ MAX_LISTED_NETS }
-    ensures { OnOk result (AddsNets (value_of supplies.now) (map (λ s. (named_net text.now s).name) nets.now) maker.old maker.new) }
+    ensures { OnOk result (AddsNets (supply_value supplies.now) (map (λ s. (named_net text.now s).name) nets.now) maker.old maker.new) }
 {
     for net in nets {
         let name = bytes_at(text, net.name);
@@ -59,7 +59,7 @@ pub fn add_pin_nets(
     supplies: &Supplies<'_>,
 ) -> Result<(), Memory>
     requires few { length maker.old.nets + length pins.now ≤ MAX_LISTED_NETS }
-    ensures { OnOk result (AddsNets (value_of supplies.now) (map (λ p. (named_pin text.now p).net) pins.now) maker.old maker.new) }
+    ensures { OnOk result (AddsNets (supply_value supplies.now) (map (λ p. (named_pin text.now p).net) pins.now) maker.old maker.new) }
 {
     for pin in pins {
         let name = bytes_at(text, pin.net);

@@ -5,7 +5,7 @@ ghost use Rattle.std.specs.List.{Contains};
 ghost use Rattle.std.specs.FinMap.{get};
 ghost use Rattle.eco_def.specs.Named.{NamedPin};
 ghost use Rattle.eco_net.specs.Netlist.{IsNet};
-ghost use Rattle.eco_net.specs.Listing.{netlist, AreApart};
+ghost use Rattle.eco_net.specs.Listing.{netlist, AreDistinctNames};
 ghost use Rattle.eco_elaborate.specs.Stated.{named_pin, named_pins};
 ghost use Rattle.eco_elaborate.specs.Stages.{AddsTops, TopsAre};
 
@@ -44,7 +44,7 @@ pub fn add_tops(
     pins: &[TopPin],
 ) -> Result<(), Memory>
     requires none { TopsAre [] (netlist maker.old) }
-    requires apart { AreApart (map (λ p. (named_pin text.now p).name) pins.now) }
+    requires apart { AreDistinctNames (map (λ p. (named_pin text.now p).name) pins.now) }
     requires nets { (p : NamedPin) → Contains (named_pins text.now pins.now) p → IsNet (netlist maker.old) p.net }
     requires few { length maker.old.tops + length pins.now ≤ MAX_TOP_PINS }
     ensures { OnOk result (AddsTops (named_pins text.now pins.now) maker.old maker.new) }

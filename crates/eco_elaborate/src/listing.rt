@@ -7,7 +7,7 @@ ghost use Rattle.eco_def.specs.Sections.{IsReadingOf};
 ghost use Rattle.eco_net.specs.Listing.{comp_names};
 ghost use Rattle.eco_elaborate.specs.Building.{Lists};
 ghost use Rattle.eco_elaborate.specs.Stated.{named_comps};
-ghost use Rattle.eco_elaborate.specs.Stages.{value_of, NetsListed, PartsListed, MacroFault};
+ghost use Rattle.eco_elaborate.specs.Stages.{supply_value, NetsListed, PartsListed, MacroFault};
 
 use crate::fault::DesignFault;
 use crate::found_pins::find_pins;
@@ -30,7 +30,7 @@ fn list_nets(
     supplies: &Supplies<'_>,
 ) -> Result<NetlistMaker, Memory>
     requires { IsReadingOf text.now design.now }
-    ensures { IfOk result (NetsListed (value_of supplies.now) text.now design.now) }
+    ensures { IfOk result (NetsListed (supply_value supplies.now) text.now design.now) }
 {
     let nets = design.nets.as_slice();
     let mut maker = NetlistMaker::with_room(alloc, nets.len(), design.comps.as_slice().len())?;
@@ -48,11 +48,12 @@ fn list_parts<M: Macros>(
     supplies: &Supplies<'_>,
 ) -> Result<NetlistMaker, DesignFault>
     requires { IsReadingOf text.now design.now }
-    ensures ok { IfOk result (PartsListed (M.kinds macros.now) (value_of supplies.now) text.now design.now) }
+    ensures ok { IfOk result (PartsListed (M.kinds macros.now) (supply_value supplies.now) text.now design.now) }
     ensures err { IfErr result (MacroFault (M.kinds macros.now) (names_of (design_in text.now design.now)).comps) }
 {
     let mut maker = list_nets(alloc, text, design, supplies)?;
-    add_comps(&mut maker, alloc, text, design.comps.as_slice(), macros)?;
+    let comps = design.comps.as_slice();
+    add_comps(&mut maker, alloc, text, design.units, comps, macros)?;
     add_tops(&mut maker, alloc, text, design.pins.as_slice())?;
     Ok(maker)
 }

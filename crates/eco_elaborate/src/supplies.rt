@@ -6,7 +6,7 @@ ghost use Rattle.std.specs.Option.{option_map, option_or};
 ghost use Rattle.std.specs.Str.{bytes_eq};
 ghost use Rattle.eco_elaborate.specs.Netlists.{supply_by as value_by};
 ghost use Rattle.eco_elaborate.specs.Stated.{named_net, named_nets, supply_among};
-ghost use Rattle.eco_elaborate.specs.Stages.{value_of, keeps_value};
+ghost use Rattle.eco_elaborate.specs.Stages.{supply_value, keeps_value};
 ghost use Rattle.eco_elaborate.specs.Building.{first_two_valued as two_valued};
 
 use eco_common::Memory;
@@ -31,7 +31,7 @@ fn supply_by(text: &[u8], net: &NetStatement) -> Option<bool>
 
 /// The value of a net, if it is a supply.
 pub fn supply_of(supplies: &Supplies<'_>, name: &[u8]) -> Option<bool>
-    ensures { result ≡ value_of supplies.now name.now }
+    ensures { result ≡ supply_value supplies.now name.now }
 {
     supplies.get(&name).copied()
 }
@@ -42,7 +42,7 @@ fn add_supply<'a>(
     name: &'a [u8],
     value: bool,
 ) -> Result<(), AllocError>
-    ensures { OnOk result ((n : List ℕ) → value_of supplies.new n ≡ option_or (value_of supplies.old n) (if bytes_eq name.now n then Some value else None)) }
+    ensures { OnOk result ((n : List ℕ) → supply_value supplies.new n ≡ option_or (supply_value supplies.old n) (if bytes_eq name.now n then Some value else None)) }
 {
     if !supplies.contains_key(&name) {
         supplies.insert(name, value)?;
@@ -56,7 +56,7 @@ fn add_stated<'a>(
     text: &'a [u8],
     net: &NetStatement,
 ) -> Result<(), AllocError>
-    ensures { OnOk result ((n : List ℕ) → value_of supplies.new n ≡ option_or (value_of supplies.old n) (supply_among (named_net text.now net.now ∷ []) n)) }
+    ensures { OnOk result ((n : List ℕ) → supply_value supplies.new n ≡ option_or (supply_value supplies.old n) (supply_among (named_net text.now net.now ∷ []) n)) }
 {
     match supply_by(text, net) {
         Some(value) => add_supply(supplies, bytes_at(text, net.name), value),
@@ -70,7 +70,7 @@ pub fn first_supplies<'a>(
     text: &'a [u8],
     nets: &[NetStatement],
 ) -> Result<Supplies<'a>, AllocError>
-    ensures { IfOk result (λ supplies. (n : List ℕ) → value_of supplies n ≡ supply_among (named_nets text.now nets.now) n) }
+    ensures { IfOk result (λ supplies. (n : List ℕ) → supply_value supplies n ≡ supply_among (named_nets text.now nets.now) n) }
 {
     let mut supplies = HashMap::new(alloc);
     for net in nets {
@@ -81,7 +81,7 @@ pub fn first_supplies<'a>(
 
 /// Whether a statement gives its net no other value than the first one does.
 fn keeps_supply(text: &[u8], net: &NetStatement, supplies: &Supplies<'_>) -> bool
-    ensures { result ≡ keeps_value (value_of supplies.now) (named_net text.now net.now) }
+    ensures { result ≡ keeps_value (supply_value supplies.now) (named_net text.now net.now) }
 {
     let Some(value) = supply_by(text, net) else {
         return true;
@@ -94,7 +94,7 @@ fn keeps_supply(text: &[u8], net: &NetStatement, supplies: &Supplies<'_>) -> boo
 
 /// Whether no net has two values.
 pub fn supplies_agree(text: &[u8], nets: &[NetStatement], supplies: &Supplies<'_>) -> bool
-    ensures { result ≡ list_all (λ s. keeps_value (value_of supplies.now) (named_net text.now s)) nets.now }
+    ensures { result ≡ list_all (λ s. keeps_value (supply_value supplies.now) (named_net text.now s)) nets.now }
 {
     nets.iter().all(|net| keeps_supply(text, net, supplies))
 }
@@ -105,7 +105,7 @@ fn first_differing<'a>(
     nets: &[NetStatement],
     supplies: &Supplies<'_>,
 ) -> Option<&'a [u8]>
-    ensures { option_map (λ n. n.now) result ≡ option_map (λ s. (named_net text.now s).name) (find (λ s. not (keeps_value (value_of supplies.now) (named_net text.now s))) nets.now) }
+    ensures { option_map (λ n. n.now) result ≡ option_map (λ s. (named_net text.now s).name) (find (λ s. not (keeps_value (supply_value supplies.now) (named_net text.now s))) nets.now) }
 {
     let net = nets.iter().find(|net| !keeps_supply(text, net, supplies))?;
     Some(bytes_at(text, net.name))

@@ -15,7 +15,7 @@ use Rattle.toml.specs.declared.value.Value.{Value}
 use Rattle.eco_func.specs.declared.fault.FuncFault.{FuncFault}
 use Rattle.eco_func.specs.declared.fault.FuncFault.TheVariants.{BadToml, BadField, TooManyInputs, BadTable, BadExpression, UnknownInput, TooManyMasters, Memory}
 use Rattle.eco_func.specs.Masters.{MasterTables}
-use Rattle.eco_func.specs.FunctionsFile.{IsByName, Gives, Reads, master_of, master_in, masters_of, functions_of, inputs_of, outputs_in, no_other, or_fault, and_more, ◌>>=◌}
+use Rattle.eco_func.specs.FunctionsFile.{IsByName, GivesValue, ReadsFunctions, master_of, master_in, masters_of, functions_of, inputs_of, outputs_in, no_other, or_fault, and_more, ◌>>=◌}
 use Rattle.eco_func.proofs.DocumentLemmas.{member_count-view, bound, same_ok}
 use Rattle.eco_func.proofs.Sound.{Sound, sound_masters}
 
@@ -69,7 +69,7 @@ too_many es n count h =
     beyond n h = grind (arith, nat_tests)
 
 -- a fault of the masters is one of the text
-pub reads_fault : {B : Type 0} (look : B → List MasterTables) (text : List ℕ) (es : List (String Global × Value)) → IsUtf8 text → parse_document text ≡ Some (members_view es) → length es ≤ MAX_MASTERS → (e : FuncFault) → Gives look (masters_of (members_view es)) (Err e) → Reads text (Err e)
+pub reads_fault : {B : Type 0} (look : B → List MasterTables) (text : List ℕ) (es : List (String Global × Value)) → IsUtf8 text → parse_document text ≡ Some (members_view es) → length es ≤ MAX_MASTERS → (e : FuncFault) → GivesValue look (masters_of (members_view es)) (Err e) → ReadsFunctions text (Err e)
 reads_fault look text es utf8 written few BadToml g = absurd (subst Sound g (sound_masters (members_view es)))
 reads_fault look text es utf8 written few (BadField m x) g = (members_view es, utf8, written, no_more es few ∙ g)
 reads_fault look text es utf8 written few (TooManyInputs m) g = (members_view es, utf8, written, no_more es few ∙ g)

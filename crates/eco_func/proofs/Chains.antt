@@ -4,7 +4,7 @@ use Rattle.eco_func.specs.declared.operator.Operator.{Operator}
 use Rattle.eco_func.specs.declared.operator.Operator.TheVariants.{And, Xor, Or}
 use Rattle.eco_func.specs.declared.part.Part.{Part}
 use Rattle.eco_func.specs.Expressions.{Expression, Not, Both, Reader, behind_blanks, then_read, mark, chain, chain_for, name, closed, sum, operand_with, operand}
-use Rattle.eco_func.specs.Parts.{IsPart, IsRead, Stops, Parses}
+use Rattle.eco_func.specs.Parts.{IsPart, IsPartRead, DoesntBegin, Parses}
 
 -- a number that falls with each call of the reader
 abbrev pub rank : Operator → ℕ
@@ -23,7 +23,7 @@ pub record InChain (inputs : List (List ℕ)) (o : Operator) (reader : Reader Ex
 
 module _ (inputs : List (List ℕ)) (o : Operator) (reader : Reader Expression) (text : List ℕ) where
   -- the first part
-  pub begun : (left : Part) (rest behind : List ℕ) → IsRead inputs reader text left rest → behind ≡ behind_blanks rest → length behind ≤ length rest → InChain inputs o reader text left behind
+  pub begun : (left : Part) (rest behind : List ℕ) → IsPartRead inputs reader text left rest → behind ≡ behind_blanks rest → length behind ≤ length rest → InChain inputs o reader text left behind
   begun left rest behind is same less = record {
     expression = is.expression;
     fuel = suc (length rest);
@@ -42,7 +42,7 @@ module _ (inputs : List (List ℕ)) (o : Operator) (reader : Reader Expression) 
       go Or = refl
 
   -- one more part
-  pub further : (left right now : Part) (rest more rest' behind : List ℕ) → InChain inputs o reader text left rest → rest ≡ mark o ∷ more → IsRead inputs reader more right rest'
+  pub further : (left right now : Part) (rest more rest' behind : List ℕ) → InChain inputs o reader text left rest → rest ≡ mark o ∷ more → IsPartRead inputs reader more right rest'
       → ((inputs : List (List ℕ)) (l r : Expression) → IsPart inputs l left → IsPart inputs r right → IsPart inputs (Both o l r) now)
       → behind ≡ behind_blanks rest' → length behind ≤ length rest' → InChain inputs o reader text now behind
   further left right now rest more rest' behind i front is joins same less = by_fuel i.fuel i.said i.room
@@ -74,7 +74,7 @@ module _ (inputs : List (List ℕ)) (o : Operator) (reader : Reader Expression) 
           ∙ ap (λ r. then_read r (λ right rest. chain_for fuel o reader (Both o i.expression right) (behind_blanks rest))) is.0
 
   -- no further part
-  pub ended : (left : Part) (rest : List ℕ) → InChain inputs o reader text left rest → Stops (mark o) rest → IsRead inputs (chain o reader) text left rest
+  pub ended : (left : Part) (rest : List ℕ) → InChain inputs o reader text left rest → DoesntBegin (mark o) rest → IsPartRead inputs (chain o reader) text left rest
   ended left rest i stops = record {
     expression = i.expression;
     said = i.said ∙ by_fuel i.fuel rest i.room stops;
@@ -82,7 +82,7 @@ module _ (inputs : List (List ℕ)) (o : Operator) (reader : Reader Expression) 
     shorter = i.shorter;
   }
     where
-      by_fuel : (fuel : ℕ) (rest : List ℕ) → length rest < fuel → Stops (mark o) rest → chain_for fuel o reader i.expression rest ≡ Ok (i.expression, rest)
+      by_fuel : (fuel : ℕ) (rest : List ℕ) → length rest < fuel → DoesntBegin (mark o) rest → chain_for fuel o reader i.expression rest ≡ Ok (i.expression, rest)
       by_fuel zero rest room s = absurd (omega (arith, room))
       by_fuel (suc fuel) [] room s = refl
       by_fuel (suc fuel) (b ∷ bs) room s = ap (λ t. cond t (then_read (reader bs) (λ right rest. chain_for fuel o reader (Both o i.expression right) (behind_blanks rest))) (Ok (i.expression, b ∷ bs))) s
@@ -105,10 +105,10 @@ module _ (depth n : ℕ) (deep : depth ≡ suc n) (text behind : List ℕ) (same
   pub nested : (rest : List ℕ) → behind ≡ 40 ∷ rest → operand depth text ≡ then_read (sum (operand n) rest) closed
   nested rest front = at_depth ∙ ap (operand_with (operand n)) front
 
-  pub plain : Stops 33 behind → Stops 40 behind → operand depth text ≡ name behind
+  pub plain : DoesntBegin 33 behind → DoesntBegin 40 behind → operand depth text ≡ name behind
   plain s t = at_depth ∙ go behind s t
     where
-      go : (b : List ℕ) → Stops 33 b → Stops 40 b → operand_with (operand n) b ≡ name b
+      go : (b : List ℕ) → DoesntBegin 33 b → DoesntBegin 40 b → operand_with (operand n) b ≡ name b
       go [] s t = refl
       go (b ∷ bs) s t =
           ap (λ x. cond x (then_read (operand n bs) (λ e rest. Ok (Not e, rest))) (cond (b == 40) (then_read (sum (operand n) bs) closed) (name (b ∷ bs)))) s

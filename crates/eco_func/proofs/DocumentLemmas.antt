@@ -4,11 +4,11 @@ use Rattle.toml.specs.View.{view, members_view}
 use Rattle.toml.specs.declared.value.Value.{Value}
 use Rattle.eco_func.specs.declared.fault.FuncFault.{FuncFault}
 use Rattle.eco_func.specs.declared.fault.FuncFault.TheVariants.{BadToml, BadField, TooManyInputs, BadTable, BadExpression, UnknownInput, TooManyMasters, Memory}
-use Rattle.eco_func.specs.FunctionsFile.{◌>>=◌, and_more, member_count, no_key_among, may_be_outputs, Gives, Blames}
+use Rattle.eco_func.specs.FunctionsFile.{◌>>=◌, and_more, member_count, no_key_among, may_be_outputs, GivesValue, Blames}
 
 -- ---- faults
 
-pub blamed : {A B : Type 0} (view : B → A) (said : Result A FuncFault) (f e : FuncFault) → said ≡ Err f → Blames f e → Gives view said (Err e)
+pub blamed : {A B : Type 0} (view : B → A) (said : Result A FuncFault) (f e : FuncFault) → said ≡ Err f → Blames f e → GivesValue view said (Err e)
 blamed view said f BadToml is b = is ∙ ap Err (sym b)
 blamed view said f (BadField m x) is b = is ∙ ap Err (sym b)
 blamed view said f (TooManyInputs m) is b = is ∙ ap Err (sym b)
@@ -19,7 +19,7 @@ blamed view said f (TooManyMasters n) is b = is ∙ ap Err (sym b)
 blamed view said f Memory is b = tt
 
 -- a fault in a first part is one of the whole
-pub passed : {A B C D : Type 0} (view : B → A) (view' : D → C) (said : Result A FuncFault) (whole : Result C FuncFault) (e : FuncFault) → ((f : FuncFault) → said ≡ Err f → whole ≡ Err f) → Gives view said (Err e) → Gives view' whole (Err e)
+pub passed : {A B C D : Type 0} (view : B → A) (view' : D → C) (said : Result A FuncFault) (whole : Result C FuncFault) (e : FuncFault) → ((f : FuncFault) → said ≡ Err f → whole ≡ Err f) → GivesValue view said (Err e) → GivesValue view' whole (Err e)
 passed view view' said whole BadToml go g = go BadToml g
 passed view view' said whole (BadField m x) go g = go (BadField m x) g
 passed view view' said whole (TooManyInputs m) go g = go (TooManyInputs m) g

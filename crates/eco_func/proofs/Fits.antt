@@ -19,7 +19,7 @@ use Rattle.eco_func.specs.declared.fault.FuncFault.TheVariants.{BadField, BadTab
 use Rattle.eco_func.specs.Tables.{TruthTable}
 use Rattle.eco_func.specs.Masters.{all_differ, is_master}
 use Rattle.eco_func.specs.Expressions.{Expression, expression_in, table_by, first_unknown}
-use Rattle.eco_func.specs.FunctionsFile.{or_fault, and_more, is_bit, table_of, known, expressed, output_table, output_of, outputs_of, member_count, no_key_among, may_be_outputs, Gives}
+use Rattle.eco_func.specs.FunctionsFile.{or_fault, and_more, is_bit, table_of, known, expressed, output_table, output_of, outputs_of, member_count, no_key_among, may_be_outputs, GivesValue}
 use Rattle.eco_func.proofs.RowLaws.{characters}
 use Rattle.eco_func.proofs.DocumentLemmas.{bound, same_ok, member_count-view}
 use Rattle.eco_func.proofs.Finding.{other_name}
@@ -125,6 +125,6 @@ module _ (m : List ℕ) (inputs : List (List ℕ)) (es : List (String Global × 
       within : (n : ℕ) → n ≤ 6 → nat_le n 6 ≡ true
       within n h = grind (arith, nat_tests)
 
-  pub fit : (r : Result (Vec OutputFn Global) FuncFault) → Gives (λ (v : Vec OutputFn Global). v.items) (outputs_of m inputs (members_view es)) r → IfOk r (λ v. all_differ inputs ≡ true → is_master inputs v.items ≡ true)
+  pub fit : (r : Result (Vec OutputFn Global) FuncFault) → GivesValue (λ (v : Vec OutputFn Global). v.items) (outputs_of m inputs (members_view es)) r → IfOk r (λ v. all_differ inputs ≡ true → is_master inputs v.items ≡ true)
   fit (Ok v) g = makes v.items g
   fit (Err e) g = tt

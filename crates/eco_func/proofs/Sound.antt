@@ -6,7 +6,7 @@ use Rattle.eco_func.specs.declared.fault.FuncFault.{FuncFault}
 use Rattle.eco_func.specs.declared.fault.FuncFault.TheVariants.{BadToml, BadField, TooManyInputs, BadTable, BadExpression, UnknownInput, TooManyMasters, Memory}
 use Rattle.eco_func.specs.Masters.{all_differ}
 use Rattle.eco_func.specs.Expressions.{Expression, expression_in, first_unknown}
-use Rattle.eco_func.specs.FunctionsFile.{◌>>=◌, or_fault, is_bit, is_field, table_of, known, expressed, output_table, output_of, outputs_of, output_pins, outputs_in, may_be_outputs, counted, distinct, inputs_of, no_other, master_in, master_of, masters_of, texts_of}
+use Rattle.eco_func.specs.FunctionsFile.{◌>>=◌, or_fault, is_bit, is_master_field, table_of, known, expressed, output_table, output_of, outputs_of, output_pins, outputs_in, may_be_outputs, counted, distinct, inputs_of, no_other, master_in, master_of, masters_of, texts_of}
 
 abbrev pub Sound : {A : Type 0} → Result A FuncFault → Type 0
 Sound (Ok x) = Unit {0}
@@ -70,7 +70,7 @@ sound_inputs m d =
 
 sound_no_other : (m : List ℕ) (fields : Members) → Sound (no_other m fields)
 sound_no_other m no_members = tt
-sound_no_other m (member k d ms) = sound_if (is_field k) (no_other m ms) (Err (BadField m k)) (sound_no_other m ms) tt
+sound_no_other m (member k d ms) = sound_if (is_master_field k) (no_other m ms) (Err (BadField m k)) (sound_no_other m ms) tt
 
 sound_master : (m : List ℕ) (d : Data) → Sound (master_of m d)
 sound_master m d =

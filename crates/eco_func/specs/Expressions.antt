@@ -4,6 +4,7 @@ use Rattle.std.specs.Char.{is_ascii_alphabetic, is_ascii_digit}
 use Rattle.std.specs.List.{list_any, position, position_or_len, find, range_with_len}
 use Rattle.std.specs.Option.{option_map_or}
 use Rattle.std.specs.Str.{byte, bytes_eq}
+use Rattle.eco_common.specs.declared.limits.TheConstants.{MAX_EXPRESSION_BYTES, MAX_EXPRESSION_DEPTH}
 use Rattle.eco_func.specs.declared.operator.Operator.{Operator}
 use Rattle.eco_func.specs.declared.operator.Operator.TheVariants.{And, Xor, Or}
 use Rattle.eco_func.specs.Tables.{TruthTable, row, at}
@@ -136,6 +137,6 @@ abbrev pub placed : ℕ → Bool → Result Expression (List ℕ) → Result Exp
 placed n short (Ok e) = if short then Ok e else Err n
 placed n short (Err rest) = Err (n - length rest)
 
--- An expression of at most 4,096 bytes, nested at most 64 deep, or the place of the first byte that can't go on. The byte at place 4,096 can't.
+-- An expression within the limits, or the place of the first byte that can't go on. The byte after the last that it may have can't.
 abbrev pub expression_in : List ℕ → Result Expression ℕ
-expression_in text = placed (length (take 4096 text)) (nat_le (length text) 4096) (whole (sum (operand 64) (take 4096 text)))
+expression_in text = placed (length (take MAX_EXPRESSION_BYTES text)) (nat_le (length text) MAX_EXPRESSION_BYTES) (whole (sum (operand MAX_EXPRESSION_DEPTH) (take MAX_EXPRESSION_BYTES text)))

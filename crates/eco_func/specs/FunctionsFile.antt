@@ -9,6 +9,7 @@ use Rattle.std.specs.List.Sorted.{IsStrictlySortedBy}
 use Rattle.std.specs.Ordering.{nat_cmp}
 use Rattle.std.specs.Cmp.Lexicographic.{slice_cmp}
 use Rattle.std.specs.Str.{IsUtf8, bytes_eq}
+use Rattle.eco_common.specs.declared.limits.TheConstants.{MAX_INPUTS, MAX_OUTPUTS}
 use Rattle.eco_common.specs.declared.limits.TheConstants.{MAX_MASTERS}
 use Rattle.toml.specs.Data.{Data, Items, no_items, item, Members, no_members, member, get, as_str, as_array, as_table}
 use Rattle.toml.specs.Parse.{parse_document}
@@ -64,7 +65,7 @@ texts_of (item d ds) = option_and_then (λ text. option_map (λ more. text ∷ m
 
 -- The field `inputs`: distinct texts, six at most.
 abbrev pub counted : List ℕ → List (List ℕ) → Result (List (List ℕ)) FuncFault
-counted master inputs = if nat_le (length inputs) 6 then Ok inputs else Err (TooManyInputs master)
+counted master inputs = if nat_le (length inputs) MAX_INPUTS then Ok inputs else Err (TooManyInputs master)
 
 abbrev pub distinct : List ℕ → List (List ℕ) → Result (List (List ℕ)) FuncFault
 distinct master inputs = if all_differ inputs then counted master inputs else Err (BadField master (codes "inputs"))
@@ -107,7 +108,7 @@ no_key_among names (member k d ms) = not (list_any (λ name. bytes_eq name k) na
 
 -- One to eight pins, none of which is an input.
 abbrev pub may_be_outputs : List (List ℕ) → Members → Bool
-may_be_outputs inputs pins = nat_le 1 (member_count pins) && nat_le (member_count pins) 8 && no_key_among inputs pins
+may_be_outputs inputs pins = nat_le 1 (member_count pins) && nat_le (member_count pins) MAX_OUTPUTS && no_key_among inputs pins
 
 abbrev pub output_pins : List ℕ → List (List ℕ) → Members → Result Members FuncFault
 output_pins master inputs pins = if may_be_outputs inputs pins then Ok pins else Err (BadField master (codes "outputs"))
@@ -119,13 +120,13 @@ outputs_in master d inputs =
 
 -- ---- masters
 
-abbrev pub is_field : List ℕ → Bool
-is_field k = bytes_eq k (codes "inputs") || bytes_eq k (codes "outputs")
+abbrev pub is_master_field : List ℕ → Bool
+is_master_field k = bytes_eq k (codes "inputs") || bytes_eq k (codes "outputs")
 
 -- no field but these two, or the first by bytes
 abbrev pub no_other : List ℕ → Members → Result (Unit {0}) FuncFault
 no_other master no_members = Ok tt
-no_other master (member k d ms) = if is_field k then no_other master ms else Err (BadField master k)
+no_other master (member k d ms) = if is_master_field k then no_other master ms else Err (BadField master k)
 
 -- A master is a table with the fields `inputs` and `outputs`, and no other.
 abbrev pub master_in : List ℕ → Data → Members → Result MasterTables FuncFault
@@ -155,16 +156,16 @@ Blames said Memory = Unit {0}
 Blames said e = e ≡ said
 
 -- The reading has this value, or this fault; out of memory may be returned at any time.
-abbrev pub Gives : {A B : Type 0} → (B → A) → Result A FuncFault → Result B FuncFault → Type 0
-Gives view said (Ok x) = said ≡ Ok (view x)
-Gives view said (Err Memory) = Unit {0}
-Gives view said (Err e) = said ≡ Err e
+abbrev pub GivesValue : {A B : Type 0} → (B → A) → Result A FuncFault → Result B FuncFault → Type 0
+GivesValue view said (Ok x) = said ≡ Ok (view x)
+GivesValue view said (Err Memory) = Unit {0}
+GivesValue view said (Err e) = said ≡ Err e
 
 -- The text is no TOML document, or its document has these functions, or this first fault.
-abbrev pub Reads : List ℕ → Result (List MasterTables) FuncFault → Type 0
-Reads text (Err Memory) = Unit {0}
-Reads text (Err BadToml) = IsUtf8 text → parse_document text ≡ None
-Reads text r = (document : Members) × IsUtf8 text × (parse_document text ≡ Some document) × (functions_of document ≡ r)
+abbrev pub ReadsFunctions : List ℕ → Result (List MasterTables) FuncFault → Type 0
+ReadsFunctions text (Err Memory) = Unit {0}
+ReadsFunctions text (Err BadToml) = IsUtf8 text → parse_document text ≡ None
+ReadsFunctions text r = (document : Members) × IsUtf8 text × (parse_document text ≡ Some document) × (functions_of document ≡ r)
 
 -- The master of a name.
 abbrev pub find_master : List ℕ → List MasterTables → Option MasterTables

@@ -2,6 +2,7 @@
 use Rattle.std.specs.Prelude.{ℕ, Bool, true, not, ◌&&◌, ◌==◌, nat_le, List, [], ◌∷◌, ◌++◌, map, length, if◌then◌else◌, Option, Some, None}
 use Rattle.std.specs.List.{list_all, list_any}
 use Rattle.std.specs.Str.{bytes_eq}
+use Rattle.eco_common.specs.declared.limits.TheConstants.{MAX_INPUTS, MAX_OUTPUTS}
 use Rattle.eco_func.specs.declared.output.OutputFn.{OutputFn}
 
 -- A master's name, its input pins in order, and its outputs in order of their pins' bytes.
@@ -23,7 +24,7 @@ pins inputs outputs = inputs ++ map (λ o. o.pin) outputs
 -- output's table over all the inputs.
 abbrev pub is_master : List (List ℕ) → List OutputFn → Bool
 is_master inputs outputs =
-    nat_le (length inputs) 6 && nat_le 1 (length outputs) && nat_le (length outputs) 8
+    nat_le (length inputs) MAX_INPUTS && nat_le 1 (length outputs) && nat_le (length outputs) MAX_OUTPUTS
     && list_all (λ o. o.table.inputs == length inputs) outputs
     && all_differ (pins inputs outputs)
 

@@ -1,5 +1,6 @@
 -- Truth tables, and the rows of lists of bits.
 use Rattle.std.specs.Prelude.{◌≡◌, ℕ, ◌+◌, ◌*◌, ◌/◌, ◌%◌, ◌^◌, ◌<◌, ◌≤◌, Bool, ◌==◌, cond, List, [], ◌∷◌, slice_index_or, false}
+use Rattle.eco_common.specs.declared.limits.TheConstants.{MAX_INPUTS}
 
 -- Bit r is the value at row r.
 pub record TruthTable : Type 0 where
@@ -8,7 +9,7 @@ pub record TruthTable : Type 0 where
 
 -- At most six inputs, and no bit past the last row.
 pub record IsTable (inputs bits : ℕ) : Type 0 where
-  pub few : inputs ≤ 6
+  pub few : inputs ≤ MAX_INPUTS
   pub within : bits < 2 ^ (2 ^ inputs)
 
 -- Bit i of a number.

@@ -12,7 +12,7 @@ ghost use Rattle.eco_func.specs.declared.fault.FuncFault.TheVariants.{BadField};
 ghost use Rattle.eco_func.specs.Masters.{all_differ, is_master};
 ghost use Rattle.eco_func.specs.Expressions.{Expression, expression_in, value_at, table_by};
 ghost use Rattle.eco_func.specs.Tables.{bit};
-ghost use Rattle.eco_func.specs.FunctionsFile.{texts_of, inputs_of, output_table as table_said, output_of as output_said, outputs_of, no_key_among, may_be_outputs as may_be, outputs_in, expressed, is_field as field_of_master, no_other, master_of, masters_of, Gives};
+ghost use Rattle.eco_func.specs.FunctionsFile.{texts_of, inputs_of, output_table as table_said, output_of as output_said, outputs_of, no_key_among, may_be_outputs as may_be, outputs_in, expressed, is_master_field as field_of_master, no_other, master_of, masters_of, GivesValue};
 
 use crate::bits::{has_only_bits, read_table};
 use crate::blame::{bad_expression, bad_field, bad_table, too_many_inputs, unknown_input};
@@ -23,24 +23,11 @@ use crate::master::MasterFn;
 use crate::output::OutputFn;
 use crate::rows::low_rows;
 use crate::table::Table as TruthTable;
-use eco_common::{Memory, Name};
+use crate::text_list::texts;
+use eco_common::{MAX_INPUTS, MAX_OUTPUTS, MAX_ROWS, Memory, Name};
 use std::alloc::Global;
 use toml::Value;
 use toml::value::{Array, Table};
-
-/// The texts of a list that has nothing else.
-fn texts(alloc: Global, list: &Array) -> Result<Option<Vec<Name>>, Memory>
-    ensures { IfOk result (λ found. option_map (λ names. names.items) found ≡ texts_of (array_view list.now)) }
-{
-    let mut names = Vec::new(alloc);
-    for value in list {
-        match value.as_str() {
-            Some(text) => names.push(Name::of(alloc, text.as_bytes())?)?,
-            None => return Ok(None),
-        }
-    }
-    Ok(Some(names))
-}
 
 /// The list at a field of a table.
 fn list_at<'a>(value: &'a Value, field: &str) -> Option<&'a Array>
@@ -68,7 +55,7 @@ fn input_texts(alloc: Global, value: &Value) -> Result<Option<Vec<Name>>, Memory
 
 /// The inputs of a master.
 fn inputs_of_master(alloc: Global, master: &[u8], value: &Value) -> Result<Vec<Name>, FuncFault>
-    ensures said { Gives (λ names. names.items) (inputs_of master.now (view value.now)) result }
+    ensures said { GivesValue (λ names. names.items) (inputs_of master.now (view value.now)) result }
     ensures differ { IfOk result (λ names. all_differ names.items ≡ true) }
     ensures few { IfOk result (λ names. length names.items ≤ 6) }
 {
@@ -78,7 +65,7 @@ fn inputs_of_master(alloc: Global, master: &[u8], value: &Value) -> Result<Vec<N
     if !differ(alloc, &inputs)? {
         return Err(bad_field(alloc, master, b"inputs"));
     }
-    if 6 < inputs.len() {
+    if MAX_INPUTS < inputs.len() {
         return Err(too_many_inputs(alloc, master));
     }
     Ok(inputs)
@@ -86,8 +73,8 @@ fn inputs_of_master(alloc: Global, master: &[u8], value: &Value) -> Result<Vec<N
 
 /// The table of the values at all rows.
 fn table_of_word(inputs: &[Name], word: u64) -> TruthTable
-    requires { length inputs.now ≤ 6 }
-    ensures { (e : Expression) → ((r : ℕ) → r < 64 → bit word r ≡ value_at inputs.now e r) → result ≡ table_by inputs.now e }
+    requires { length inputs.now ≤ MAX_INPUTS }
+    ensures { (e : Expression) → ((r : ℕ) → r < MAX_ROWS → bit word r ≡ value_at inputs.now e r) → result ≡ table_by inputs.now e }
 {
     TruthTable::of_rows(inputs.len() as u8, word)
 }
@@ -100,8 +87,8 @@ fn expression_table(
     inputs: &[Name],
     text: &[u8],
 ) -> Result<TruthTable, FuncFault>
-    requires { length inputs.now ≤ 6 }
-    ensures { Gives (λ t. t) (expressed master.now pin.now inputs.now (expression_in text.now)) result }
+    requires { length inputs.now ≤ MAX_INPUTS }
+    ensures { GivesValue (λ t. t) (expressed master.now pin.now inputs.now (expression_in text.now)) result }
 {
     let part = match read_expression(inputs, text) {
         Ok(part) => part,
@@ -121,8 +108,8 @@ fn output_table(
     inputs: &[Name],
     text: &[u8],
 ) -> Result<TruthTable, FuncFault>
-    requires { length inputs.now ≤ 6 }
-    ensures { Gives (λ t. t) (table_said master.now pin.now inputs.now text.now) result }
+    requires { length inputs.now ≤ MAX_INPUTS }
+    ensures { GivesValue (λ t. t) (table_said master.now pin.now inputs.now text.now) result }
 {
     if !has_only_bits(text) {
         return expression_table(alloc, master, pin, inputs, text);
@@ -141,8 +128,8 @@ fn output_of(
     inputs: &[Name],
     value: &Value,
 ) -> Result<TruthTable, FuncFault>
-    requires { length inputs.now ≤ 6 }
-    ensures { Gives (λ t. t) (output_said master.now pin.now inputs.now (view value.now)) result }
+    requires { length inputs.now ≤ MAX_INPUTS }
+    ensures { GivesValue (λ t. t) (output_said master.now pin.now inputs.now (view value.now)) result }
 {
     match value.as_str() {
         Some(text) => output_table(alloc, master, pin, inputs, text.as_bytes()),
@@ -157,8 +144,8 @@ fn outputs(
     inputs: &[Name],
     pins: &Table,
 ) -> Result<Vec<OutputFn>, FuncFault>
-    requires { length inputs.now ≤ 6 }
-    ensures { Gives (λ outputs. outputs.items) (outputs_of master.now inputs.now (table_view pins.now)) result }
+    requires { length inputs.now ≤ MAX_INPUTS }
+    ensures { GivesValue (λ outputs. outputs.items) (outputs_of master.now inputs.now (table_view pins.now)) result }
 {
     let mut found = Vec::new(alloc);
     for (pin, value) in pins {
@@ -188,9 +175,9 @@ fn has_none(names: &[Name], fields: &Table) -> bool
 }
 
 fn is_few(count: usize) -> bool
-    ensures { result ≡ (nat_le 1 count && nat_le count 8) }
+    ensures { result ≡ (nat_le 1 count && nat_le count MAX_OUTPUTS) }
 {
-    1 <= count && count <= 8
+    1 <= count && count <= MAX_OUTPUTS
 }
 
 /// Whether a master may have these output pins: one to eight, none of which is an input.
@@ -208,8 +195,8 @@ fn outputs_of_master(
     inputs: &[Name],
     value: &Value,
 ) -> Result<Vec<OutputFn>, FuncFault>
-    requires { length inputs.now ≤ 6 }
-    ensures said { Gives (λ outputs. outputs.items) (outputs_in master.now (view value.now) inputs.now) result }
+    requires { length inputs.now ≤ MAX_INPUTS }
+    ensures said { GivesValue (λ outputs. outputs.items) (outputs_in master.now (view value.now) inputs.now) result }
     ensures fit { IfOk result (λ outputs. all_differ inputs.now ≡ true → is_master inputs.now outputs.items ≡ true) }
 {
     let Some(pins) = table_at(value, "outputs") else {
@@ -241,7 +228,7 @@ fn other_field(fields: &Table) -> Option<&str>
 
 /// The master of this name.
 fn read_master(alloc: Global, name: &str, value: &Value) -> Result<MasterFn, FuncFault>
-    ensures said { Gives (λ m. m) (master_of name.now (view value.now)) result }
+    ensures said { GivesValue (λ m. m) (master_of name.now (view value.now)) result }
     ensures makes { IfOk result (λ m. is_master m.inputs m.outputs ≡ true) }
 {
     let bytes = name.as_bytes();
@@ -259,7 +246,7 @@ fn read_master(alloc: Global, name: &str, value: &Value) -> Result<MasterFn, Fun
 
 /// All masters, in the order of the document.
 pub fn read_masters(alloc: Global, document: &Table) -> Result<Vec<MasterFn>, FuncFault>
-    ensures said { Gives (λ masters. masters.items) (masters_of (table_view document.now)) result }
+    ensures said { GivesValue (λ masters. masters.items) (masters_of (table_view document.now)) result }
     ensures make { IfOk result (λ masters. All (λ m. is_master m.inputs m.outputs ≡ true) masters.items) }
 {
     let mut masters = Vec::new(alloc);

@@ -6,18 +6,12 @@ ghost use Rattle.std.specs.List.{list_any, position, position_or_len};
 ghost use Rattle.std.specs.Str.{byte, bytes_eq};
 ghost use Rattle.eco_func.specs.Tables.{bit};
 ghost use Rattle.eco_func.specs.Expressions.{Expression, Input, Not, Both, begins_name as begins, goes_on as may_follow, behind_blanks as without_blanks, mark, name as name_of, closed as closes, chain as chain_of, part_of, operand as operand_of, sum, whole, expression_in, applied as apply, input_value, value_at, first_unknown};
-ghost use Rattle.eco_func.specs.Parts.{IsPart, Parses, Stops, Places};
+ghost use Rattle.eco_func.specs.Parts.{IsPart, Parses, DoesntBegin, IsParse};
 
 use crate::operator::Operator;
 use crate::part::Part;
 use crate::rows::input_column;
-use eco_common::Name;
-
-/// An expression has no more bytes.
-const MOST_BYTES: usize = 4096;
-
-/// Parentheses and `!` nest no deeper.
-const DEEPEST: u32 = 64;
+use eco_common::{MAX_EXPRESSION_BYTES, MAX_EXPRESSION_DEPTH, MAX_INPUTS, MAX_ROWS, Name};
 
 fn begins_name(byte: u8) -> bool
     ensures { result ≡ begins byte }
@@ -70,8 +64,8 @@ fn input_place(inputs: &[Name], name: &[u8]) -> Option<usize>
 
 /// The values of the input of a name, and 0 at all rows where there is none.
 fn column_of(inputs: &[Name], name: &[u8]) -> u64
-    requires { length inputs.now ≤ 6 }
-    ensures { (r : ℕ) → r < 64 → bit result r ≡ input_value inputs.now r name.now }
+    requires { length inputs.now ≤ MAX_INPUTS }
+    ensures { (r : ℕ) → r < MAX_ROWS → bit result r ≡ input_value inputs.now r name.now }
 {
     match input_place(inputs, name) {
         Some(place) => input_column(place as u8),
@@ -87,7 +81,7 @@ fn is_input(inputs: &[Name], name: &[u8]) -> bool
 
 /// What a name gives.
 fn named<'a>(inputs: &[Name], name: &'a [u8]) -> Part<'a>
-    requires { length inputs.now ≤ 6 }
+    requires { length inputs.now ≤ MAX_INPUTS }
     ensures { IsPart inputs.now (Input name.now) result }
 {
     Part {
@@ -102,7 +96,7 @@ fn named<'a>(inputs: &[Name], name: &'a [u8]) -> Part<'a>
 
 /// A name at the beginning of the text.
 fn name<'a>(inputs: &[Name], text: &'a [u8]) -> Result<(Part<'a>, &'a [u8]), &'a [u8]>
-    requires { length inputs.now ≤ 6 }
+    requires { length inputs.now ≤ MAX_INPUTS }
     ensures { Parses inputs.now name_of text.now result }
 {
     match text {
@@ -116,7 +110,7 @@ fn name<'a>(inputs: &[Name], text: &'a [u8]) -> Result<(Part<'a>, &'a [u8]), &'a
 
 /// The other value at each row.
 fn turned(word: u64) -> u64
-    ensures { (r : ℕ) → r < 64 → bit result r ≡ not (bit word r) }
+    ensures { (r : ℕ) → r < MAX_ROWS → bit result r ≡ not (bit word r) }
 {
     !word
 }
@@ -164,7 +158,7 @@ fn joined<'a>(operator: Operator, left: Part<'a>, right: Part<'a>) -> Part<'a>
 
 /// What follows a byte at the beginning.
 fn behind_byte(byte: u8, text: &[u8]) -> Option<&[u8]>
-    ensures { MatchOption result (Stops byte text.now) (λ rest. text.now ≡ byte ∷ rest.now) }
+    ensures { MatchOption result (DoesntBegin byte text.now) (λ rest. text.now ≡ byte ∷ rest.now) }
 {
     match text {
         [first, rest @ ..] if *first == byte => Some(rest),
@@ -174,7 +168,7 @@ fn behind_byte(byte: u8, text: &[u8]) -> Option<&[u8]>
 
 /// What follows an operator at the beginning.
 fn behind_mark(operator: Operator, text: &[u8]) -> Option<&[u8]>
-    ensures { MatchOption result (Stops (mark operator) text.now) (λ rest. text.now ≡ mark operator ∷ rest.now) }
+    ensures { MatchOption result (DoesntBegin (mark operator) text.now) (λ rest. text.now ≡ mark operator ∷ rest.now) }
 {
     match operator {
         Operator::And => behind_byte(b'&', text),
@@ -201,7 +195,7 @@ fn part<'a>(
     depth: u32,
     text: &'a [u8],
 ) -> Result<(Part<'a>, &'a [u8]), &'a [u8]>
-    requires { length inputs.now ≤ 6 }
+    requires { length inputs.now ≤ MAX_INPUTS }
     ensures { Parses inputs.now (part_of operator (operand_of depth)) text.now result }
 {
     match operator {
@@ -219,7 +213,7 @@ fn chain<'a>(
     depth: u32,
     text: &'a [u8],
 ) -> Result<(Part<'a>, &'a [u8]), &'a [u8]>
-    requires { length inputs.now ≤ 6 }
+    requires { length inputs.now ≤ MAX_INPUTS }
     ensures { Parses inputs.now (chain_of operator (part_of operator (operand_of depth))) text.now result }
 {
     let (mut left, rest) = part(inputs, operator, depth, text)?;
@@ -239,7 +233,7 @@ fn operand<'a>(
     depth: u32,
     text: &'a [u8],
 ) -> Result<(Part<'a>, &'a [u8]), &'a [u8]>
-    requires { length inputs.now ≤ 6 }
+    requires { length inputs.now ≤ MAX_INPUTS }
     ensures { Parses inputs.now (operand_of depth) text.now result }
 {
     let text = behind_blanks(text);
@@ -259,29 +253,29 @@ fn operand<'a>(
 
 /// The bytes that an expression may have.
 fn readable(text: &[u8]) -> &[u8]
-    ensures value { result.now ≡ take 4096 text.now }
-    ensures few { length result.now ≤ 4096 }
+    ensures value { result.now ≡ take MAX_EXPRESSION_BYTES text.now }
+    ensures few { length result.now ≤ MAX_EXPRESSION_BYTES }
 {
-    if text.len() <= MOST_BYTES {
+    if text.len() <= MAX_EXPRESSION_BYTES {
         text
     } else {
-        &text[..MOST_BYTES]
+        &text[..MAX_EXPRESSION_BYTES]
     }
 }
 
 /// An expression in which all is read, or the place of the first byte that can't go on.
 pub fn read_expression<'a>(inputs: &[Name], text: &'a [u8]) -> Result<Part<'a>, usize>
-    requires { length inputs.now ≤ 6 }
-    ensures said { Places inputs.now text.now result }
-    ensures within { IfErr result (λ place. place ≤ 4096) }
+    requires { length inputs.now ≤ MAX_INPUTS }
+    ensures said { IsParse inputs.now text.now result }
+    ensures within { IfErr result (λ place. place ≤ MAX_EXPRESSION_BYTES) }
 {
     let readable = readable(text);
-    match chain(inputs, Operator::Or, DEEPEST, readable) {
+    match chain(inputs, Operator::Or, MAX_EXPRESSION_DEPTH, readable) {
         Ok((part, rest)) => {
             if !rest.is_empty() {
                 return Err(readable.len() - rest.len());
             }
-            if MOST_BYTES < text.len() {
+            if MAX_EXPRESSION_BYTES < text.len() {
                 return Err(readable.len());
             }
             Ok(part)

@@ -21,6 +21,7 @@ mod part;
 mod read;
 mod rows;
 mod table;
+mod text_list;
 
 pub use crate::bits::read_table;
 pub use crate::fault::FuncFault;
@@ -30,6 +31,7 @@ pub use crate::output::OutputFn;
 pub use crate::read::read_functions;
 pub use crate::rows::{input_column, low_rows};
 pub use crate::table::Table;
+pub use crate::text_list::texts;
 pub use eco_common::{Memory, Name};
 
 /// A law of tables: bit `i` of the row of a list of bits is bit `i` of the list.

@@ -6,7 +6,7 @@ ghost use Rattle.std.specs.Str.{bytes_eq};
 ghost use Rattle.eco_func.specs.Masters.{is_master, all_differ, pins};
 
 use crate::output::OutputFn;
-use eco_common::{Memory, Name};
+use eco_common::{MAX_INPUTS, MAX_OUTPUTS, Memory, Name};
 use std::alloc::Global;
 use std::marker::Model;
 use std::sync::Arc;
@@ -132,9 +132,9 @@ fn fit_together(inputs: &[Name], outputs: &[OutputFn]) -> bool
 
 /// Whether a master may have so many inputs and outputs.
 fn are_few(inputs: usize, outputs: usize) -> bool
-    ensures { result ≡ (nat_le inputs 6 && nat_le 1 outputs && nat_le outputs 8) }
+    ensures { result ≡ (nat_le inputs MAX_INPUTS && nat_le 1 outputs && nat_le outputs MAX_OUTPUTS) }
 {
-    inputs <= 6 && 1 <= outputs && outputs <= 8
+    inputs <= MAX_INPUTS && 1 <= outputs && outputs <= MAX_OUTPUTS
 }
 
 /// Whether each output's table has so many inputs.

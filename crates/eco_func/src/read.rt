@@ -2,7 +2,7 @@
 
 ghost use Rattle.std.specs.Prelude.{◌≡◌, true, IfOk};
 ghost use Rattle.std.specs.List.{All};
-ghost use Rattle.eco_func.specs.FunctionsFile.{Reads};
+ghost use Rattle.eco_func.specs.FunctionsFile.{ReadsFunctions};
 ghost use Rattle.eco_func.specs.Masters.{is_master};
 
 use crate::document::read_masters;
@@ -14,7 +14,7 @@ use std::alloc::Global;
 /// The functions that a text gives: a TOML document with a table per master, each output a table of 0 and 1 or an
 /// expression. Else its first fault.
 pub fn read_functions(alloc: Global, text: &[u8]) -> Result<Functions, FuncFault>
-    ensures reads { Reads text.now result }
+    ensures reads { ReadsFunctions text.now result }
     ensures masters { IfOk result (λ functions. All (λ m. is_master m.inputs m.outputs ≡ true) functions) }
 {
     let document = match toml::table_from_slice(alloc, text) {

@@ -3,10 +3,12 @@
 ghost use Rattle.std.specs.Prelude.{◌≡◌, ◌<◌, ◌≤◌, ◌-◌, ◌^◌, ℕ};
 ghost use Rattle.eco_func.specs.Tables.{bit};
 
-/// The values of an input at 64 rows.
+use eco_common::{MAX_INPUTS, MAX_ROWS};
+
+/// The values of an input at all rows.
 pub fn input_column(input: u8) -> u64
-    requires { input < 6 }
-    ensures { (r : ℕ) → r < 64 → bit result r ≡ bit r input }
+    requires { input < MAX_INPUTS }
+    ensures { (r : ℕ) → r < MAX_ROWS → bit result r ≡ bit r input }
 {
     match input {
         0 => 0xaaaa_aaaa_aaaa_aaaa,
@@ -20,8 +22,8 @@ pub fn input_column(input: u8) -> u64
 
 /// The word with 1 at each row of so many inputs.
 pub fn low_rows(inputs: u8) -> u64
-    requires { inputs ≤ 6 }
+    requires { inputs ≤ MAX_INPUTS }
     ensures { result ≡ 2 ^ (2 ^ inputs) - 1 }
 {
-    u64::MAX >> (64 - (1u32 << inputs))
+    u64::MAX >> (MAX_ROWS - (1u32 << inputs))
 }

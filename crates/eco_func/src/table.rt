@@ -4,6 +4,7 @@ ghost use Rattle.std.specs.Prelude.{◌≡◌, ◌<◌, ◌≤◌, ◌^◌, ◌�
 ghost use Rattle.eco_func.specs.Tables.{row};
 
 use crate::rows::low_rows;
+use eco_common::{MAX_INPUTS, MAX_ROWS};
 use std::marker::Model;
 
 /// The value of a logic function at each row of its inputs.
@@ -36,7 +37,7 @@ impl Table {
     pub fn new(inputs: u8, bits: u64) -> Option<Table>
         ensures { MatchOption result (¬ IsTable inputs bits) (λ t. (t ≡ record { inputs = inputs; bits = bits }) × IsTable inputs bits) }
     {
-        if inputs <= 6 && fits_rows(inputs, bits) {
+        if inputs as usize <= MAX_INPUTS && fits_rows(inputs, bits) {
             Some(Table { inputs, bits })
         } else {
             None
@@ -45,7 +46,7 @@ impl Table {
 
     /// The table with these inputs whose values are the word's first bits.
     pub(crate) fn of_rows(inputs: u8, word: u64) -> Table
-        requires { inputs ≤ 6 }
+        requires { inputs ≤ MAX_INPUTS }
         ensures inputs { result.inputs ≡ inputs }
         ensures values { (r : ℕ) → r < 2 ^ inputs → at result r ≡ bit word r }
         ensures is_table { IsTable result.inputs result.bits }
@@ -59,7 +60,7 @@ impl Table {
     /// How many inputs it has.
     pub fn inputs(&self) -> u8
         ensures value { result ≡ self.now.inputs }
-        ensures few { result ≤ 6 }
+        ensures few { result ≤ MAX_INPUTS }
     {
         self.inputs
     }
@@ -92,7 +93,7 @@ impl Table {
 
 /// The row of a list of bits.
 fn row_of(bits: &[bool]) -> u8
-    requires { length bits.now ≤ 6 }
+    requires { length bits.now ≤ MAX_INPUTS }
     ensures value { result ≡ row bits.now }
     ensures within { result < 2 ^ length bits.now }
 {
@@ -107,9 +108,9 @@ fn row_of(bits: &[bool]) -> u8
 
 /// Whether no bit stands past the last row.
 fn fits_rows(inputs: u8, bits: u64) -> bool
-    requires { inputs ≤ 6 }
+    requires { inputs ≤ MAX_INPUTS }
     ensures { IsTrue result ↔ (bits < 2 ^ (2 ^ inputs)) }
 {
     let rows = 1u32 << inputs;
-    rows == 64 || bits >> rows == 0
+    rows == MAX_ROWS || bits >> rows == 0
 }

@@ -83,30 +83,28 @@ issues_none text V changes p q keeps ends at_q u x r at e =
       reads = λ i w k es h. let y = a.reads i w k es h in (y.0, y.1, ap (λ l. q (now text k at_q (l ++ es))) no ∙ y.2, y.3);
     }
 
+-- what was chosen in the text is chosen in the edited text
+pub chosen_along : {A B I : Type 0} (text : List ℕ) (V : A → B → Type 0) (changes : A → List Edit) (Q : I → Type 0) (f : Token → Bool) (b : Bool) (q q' : I → Parser B) → Tests f f → (at_q : ℕ) (x : A) (u r : Walk) → begins f u ≡ b →
+    Along text V changes Q (λ i w. if b then q i w else q' i w) at_q x u r → Along text V changes Q (λ i. choose f (q i) (q' i)) at_q x u r
+chosen_along text V changes Q f b q q' test at_q x u r is a = record {
+  place = a.place;
+  at = a.at;
+  closed = a.closed;
+  later = a.later;
+  ahead = a.ahead;
+  first = a.first;
+  reads = λ i w k es h.
+      let v = now text k at_q (changes x ++ es) in
+      let y = a.reads i w k es h in
+      (y.0, y.1, ap (λ b. if b then q i v else q' i v) (begins_again test u v (a.first k es h) ∙ is) ∙ y.2, y.3);
+}
+
 pub issues_choose : {A B I : Type 0} (text : List ℕ) (V : A → B → Type 0) (changes : A → List Edit) (Q : I → Type 0) (f : Token → Bool) (p p' : Parser A) (q q' : I → Parser B) → Tests f f →
     Issues text V changes Q p q → Issues text V changes Q p' q' → Issues text V changes Q (choose f p p') (λ i. choose f (q i) (q' i))
 issues_choose {A} {B} {I} text V changes Q f p p' q q' test yes' no' at_q u x r at e =
     chosen f p p' u x r e (Along text V changes Q (λ i. choose f (q i) (q' i)) at_q x u r)
-    (λ i e. let a = yes' at_q u x r at e in record {
-      place = a.place;
-      at = a.at;
-      closed = a.closed;
-      later = a.later;
-      ahead = a.ahead;
-      first = a.first;
-      reads = λ j w k es h. let y = a.reads j w k es h in
-          (y.0, y.1, ap (λ b. if b then q j (now text k at_q (changes x ++ es)) else q' j (now text k at_q (changes x ++ es))) (begins_again test u (now text k at_q (changes x ++ es)) (a.first k es h) ∙ i) ∙ y.2, y.3);
-    })
-    (λ i e. let a = no' at_q u x r at e in record {
-      place = a.place;
-      at = a.at;
-      closed = a.closed;
-      later = a.later;
-      ahead = a.ahead;
-      first = a.first;
-      reads = λ j w k es h. let y = a.reads j w k es h in
-          (y.0, y.1, ap (λ b. if b then q j (now text k at_q (changes x ++ es)) else q' j (now text k at_q (changes x ++ es))) (begins_again test u (now text k at_q (changes x ++ es)) (a.first k es h) ∙ i) ∙ y.2, y.3);
-    })
+    (λ is e. chosen_along text V changes Q f true q q' test at_q x u r is (yes' at_q u x r at e))
+    (λ is e. chosen_along text V changes Q f false q q' test at_q x u r is (no' at_q u x r at e))
 
 -- ---- values one after another
 

@@ -45,11 +45,18 @@ comps_from ps (Some n) None t d e = absurd (no_design e)
 comps_from ps (Some n) (Some c) None d e = absurd (no_design e)
 comps_from ps (Some n) (Some c) (Some s) d e = ap (λ k. k.comps) (ok_is e)
 
+units_from : (ps : List Part) (n : Option ℕ) (c : Option (List Comp)) (t : Option NetSection) (d : Design) → design_from ps n c t ≡ Ok d → n ≡ Some d.units
+units_from ps None c t d e = absurd (no_design e)
+units_from ps (Some n) None t d e = absurd (no_design e)
+units_from ps (Some n) (Some c) None d e = absurd (no_design e)
+units_from ps (Some n) (Some c) (Some s) d e = ap (λ k. Some k.units) (ok_is e)
+
 -- the parts of a text with a design
 pub record PartsOf (text : List ℕ) (o : Changes) (d : Design) : Type 0 where
   pub parts_are : List Part
   pub rest : Walk
   pub read : parts (walk_of text) ≡ Ok (parts_are, rest)
+  pub units_is : last_some (map units_of parts_are) ≡ Some d.units
   pub comps_are : or_none (first_some (map comps_of parts_are)) ≡ d.comps
   pub pins_are : or_none (first_some (map pins_of parts_are)) ≡ d.pins
   pub nets_is : first_some (map nets_of parts_are) ≡ Some d.nets
@@ -68,6 +75,7 @@ parts_of text o d is = go (parts (walk_of text)) refl
           parts_are = x.0;
           rest = x.1;
           read = e;
+          units_is = units_from x.0 (last_some (map units_of x.0)) (first_some (map comps_of x.0)) (first_some (map nets_of x.0)) d whole;
           comps_are = comps_from x.0 (last_some (map units_of x.0)) (first_some (map comps_of x.0)) (first_some (map nets_of x.0)) d whole;
           pins_are = pins_from x.0 (last_some (map units_of x.0)) (first_some (map comps_of x.0)) (first_some (map nets_of x.0)) d whole;
           nets_is = found;

@@ -7,7 +7,7 @@ use Rattle.std.proofs.lemmas.List.Folds.{list_any-append}
 use Rattle.eco_common.specs.NameBytes.{is_among}
 use Rattle.eco_def.specs.Design.{TopPin, Net, Design, Nets}
 use Rattle.eco_def.specs.Named.{NamedPin, NamedJoint, NamedDesign, pin_names, net_names, names_of}
-use Rattle.eco_issued_laws.specs.Changes.{NewJoint, precedes, pin_precedes, in_order, stands, has_statement, pin_of, new_pins, is_nil, once_each, stated_first, changes_of}
+use Rattle.eco_issued_laws.specs.Changes.{NewJoint, precedes, pin_precedes, in_order, stands, has_statement, pin_joint, new_pins, is_nil, once_each, stated_first, changes_of}
 use Rattle.eco_text.specs.Tokens.{can_name}
 use Rattle.eco_issued_laws.specs.ReadingBack.{can_stand, first_stated, CanGet}
 use Rattle.eco_issued_laws.proofs.Allowed.{IsName, JointOk, AllJointsOk, FreshOk, ChangesOk, Allows}
@@ -18,19 +18,19 @@ use Rattle.eco_issued_laws.proofs.Names.{name_when, decimal_word}
 -- ---- new pins
 
 printed_pins : (d : NamedDesign) (net : List ℕ) (joints : List NewJoint) → AllByRecursion (λ n. can_stand d n ≡ true) joints →
-    AllJointsOk (map pin_of (filter (λ n. bytes_eq n.net net && not (stands (d.special ++ d.nets) n)) joints))
+    AllJointsOk (map pin_joint (filter (λ n. bytes_eq n.net net && not (stands (d.special ++ d.nets) n)) joints))
 printed_pins d net [] all = tt
 printed_pins d net (n ∷ joints) all = go (bytes_eq n.net net) (stands (d.special ++ d.nets) n) all.0 (printed_pins d net joints all.1)
   where
-    go : (b s : Bool) → (s || (can_name n.comp && can_name n.pin)) ≡ true → AllJointsOk (map pin_of (filter (λ n. bytes_eq n.net net && not (stands (d.special ++ d.nets) n)) joints)) →
-        AllJointsOk (map pin_of (if b && not s then n ∷ filter (λ n. bytes_eq n.net net && not (stands (d.special ++ d.nets) n)) joints else filter (λ n. bytes_eq n.net net && not (stands (d.special ++ d.nets) n)) joints))
+    go : (b s : Bool) → (s || (can_name n.comp && can_name n.pin)) ≡ true → AllJointsOk (map pin_joint (filter (λ n. bytes_eq n.net net && not (stands (d.special ++ d.nets) n)) joints)) →
+        AllJointsOk (map pin_joint (if b && not s then n ∷ filter (λ n. bytes_eq n.net net && not (stands (d.special ++ d.nets) n)) joints else filter (λ n. bytes_eq n.net net && not (stands (d.special ++ d.nets) n)) joints))
     go true false e rest = let p = and_parts (can_name n.comp) (can_name n.pin) e in ((name_when n.comp p.0, name_when n.pin p.1), rest)
     go true true e rest = rest
     go false s e rest = rest
 
 new_pins_ok : (d : NamedDesign) (joints : List NewJoint) (net : List ℕ) → AllByRecursion (λ n. can_stand d n ≡ true) joints → AllJointsOk (new_pins d joints net)
 new_pins_ok d joints net all =
-    all_in_order JointOk pin_precedes (map pin_of (filter (λ n. bytes_eq n.net net && not (stands (d.special ++ d.nets) n)) joints)) (printed_pins d net joints all)
+    all_in_order JointOk pin_precedes (map pin_joint (filter (λ n. bytes_eq n.net net && not (stands (d.special ++ d.nets) n)) joints)) (printed_pins d net joints all)
 
 pub changes_ok : (d : Design) (joints : List NewJoint) (nets : List (List ℕ)) → CanGet d joints nets → ChangesOk (changes_of (names_of d) joints nets)
 changes_ok d joints nets can = record {

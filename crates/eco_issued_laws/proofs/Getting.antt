@@ -6,14 +6,10 @@ use Rattle.std.proofs.lemmas.Bool.{or_parts}
 use Rattle.std.proofs.lemmas.List.Folds.{list_any-append}
 use Rattle.eco_def.specs.Design.{TopPin, Design}
 use Rattle.eco_def.specs.Named.{NamedPin, NamedDesign, pin_names, names_of}
-use Rattle.eco_issued_laws.specs.Changes.{NewJoint, stands, has_statement, new_pins, is_nil, once_each, stated_first}
+use Rattle.eco_issued_laws.specs.Changes.{NewJoint, stands, has_statement, has_net, new_pins, is_nil, once_each, stated_first}
 use Rattle.eco_text.specs.Tokens.{can_name}
 use Rattle.eco_issued_laws.specs.ReadingBack.{can_stand, first_stated, CanGet}
 use Rattle.eco_issued_laws.proofs.Sorting.{not_true, all_as, all_join, all_filter, all_once, bytes_differ}
-
--- the design has the net, in a statement or at a top pin
-abbrev pub has_net : NamedDesign → List ℕ → Bool
-has_net d n = has_statement (d.special ++ d.nets) n || list_any (λ p. bytes_eq p.net n) d.pins
 
 all_to : {A : Type 0} (p : A → Bool) (xs : List A) → AllByRecursion (λ x. p x ≡ true) xs → list_all p xs ≡ true
 all_to p [] all = refl

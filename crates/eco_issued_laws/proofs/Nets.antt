@@ -319,7 +319,7 @@ net_printed text o special xs q u s r ok at e = go (list_all (λ j. o.stays s.na
     }
 
     go : (b : Bool) → list_all (λ j. o.stays s.name.bytes (joint_names j)) s.joints ≡ b → (c : Bool) → is_nil (o.added special s.name.bytes) ≡ c →
-        PrintedNet (map (λ k. k.name.bytes) xs) (issued_net o special (net_names s)) (if (if b then c else false) then slice_range text s.start s.end else changed_text text o special s)
+        PrintedNet (map (λ k. k.name.bytes) xs) (issued_net o special (net_names s)) (if b && c then slice_range text s.start s.end else changed_text text o special s)
     go true i true j =
         let joints_same : map joint_names s.joints ≡ filter (o.stays s.name.bytes) (map joint_names s.joints) ++ o.added special s.name.bytes =
         sym (stays_all o s.name.bytes s.joints i) ∙ sym (append-nil (filter (o.stays s.name.bytes) (map joint_names s.joints))) ∙ ap (λ k. filter (o.stays s.name.bytes) (map joint_names s.joints) ++ k) (sym (nil_is (o.added special s.name.bytes) j)) in

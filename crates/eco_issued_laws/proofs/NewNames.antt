@@ -4,7 +4,7 @@ use Rattle.std.specs.List.{list_all}
 use Rattle.std.specs.Str.{bytes_eq}
 use Rattle.std.proofs.lemmas.Bool.{and_parts}
 use Rattle.std.proofs.lemmas.Bool.Decides.{nat_tests}
-use Rattle.eco_common.specs.declared.limits.TheConstants.{MAX_NAME_BYTES}
+use Rattle.eco_common.specs.declared.limits.TheConstants.{MAX_NAME_BYTES, MAX_NEW_NET_BYTES}
 use Rattle.eco_common.specs.NameBytes.{is_name_byte, is_mark}
 use Rattle.eco_text.specs.Tokens.{can_name}
 use Rattle.eco_issued_laws.proofs.Sorting.{not_true}
@@ -20,7 +20,7 @@ net_bytes : (bs : List ℕ) → list_all is_net_byte bs ≡ true → list_all is
 net_bytes [] e = refl
 net_bytes (b ∷ bs) e = let p = and_parts (is_net_byte b) (list_all is_net_byte bs) e in rw (net_byte b p.0, net_bytes bs p.1) refl
 
-longer : (n : ℕ) → nat_le n 255 ≡ true → nat_le n MAX_NAME_BYTES ≡ true
+longer : (n : ℕ) → nat_le n MAX_NEW_NET_BYTES ≡ true → nat_le n MAX_NAME_BYTES ≡ true
 longer n e = grind (arith, nat_tests)
 
 no_mark : (b : ℕ) (bs : List ℕ) → is_mark (b ∷ []) ≡ false → is_mark (b ∷ bs) ≡ false
@@ -30,8 +30,8 @@ no_mark b (c ∷ bs) e = refl
 pub new_can_name : (n : List ℕ) → can_be_new n ≡ true → (can_name n ≡ true) × (bytes_eq n (codes "MUSTJOIN") ≡ false)
 new_can_name [] e = absurd (true≢false (sym e))
 new_can_name (b ∷ bs) e =
-    let p = and_parts (begins_net b && list_all is_net_byte bs && nat_le (length (b ∷ bs)) 255) (not (bytes_eq (b ∷ bs) (codes "MUSTJOIN"))) e in
-    let q = and_parts (begins_net b && list_all is_net_byte bs) (nat_le (length (b ∷ bs)) 255) p.0 in
+    let p = and_parts (begins_net b && list_all is_net_byte bs && nat_le (length (b ∷ bs)) MAX_NEW_NET_BYTES) (not (bytes_eq (b ∷ bs) (codes "MUSTJOIN"))) e in
+    let q = and_parts (begins_net b && list_all is_net_byte bs) (nat_le (length (b ∷ bs)) MAX_NEW_NET_BYTES) p.0 in
     let r = and_parts (begins_net b) (list_all is_net_byte bs) q.0 in
     let first = begins_name b r.0 in
     let some : nat_le 1 (length (b ∷ bs)) ≡ true = grind (arith, nat_tests) in

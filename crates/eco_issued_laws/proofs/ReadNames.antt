@@ -1,15 +1,22 @@
--- Components' names and the nets of top pins are names.
-use Rattle.std.proofs.Common.{◌≡◌, ℕ, Bool, true, false, not, List, [], ◌∷◌, map, Ok, Option, Some, None, refl, ap, sym, ◌∙◌, subst, if◌then◌else◌, codes}
+-- Components' names and the nets of top pins are names, and units and places are bounded.
+use Rattle.std.proofs.Common.{◌≡◌, ℕ, ◌≤◌, ◌==◌, ◌^◌, ◌-◌, nat_le, ℤ, pos, neg_ℤ, Bool, true, false, not, List, [], ◌∷◌, map, Ok, Option, Some, None, IfSome, option_and_then, refl, ap, sym, ◌∙◌, subst, if◌then◌else◌, codes, arith}
+use Rattle.std.proofs.lemmas.Bool.Decides.{nat_tests}
+use Rattle.std.proofs.lemmas.Int.{ints}
 use Rattle.std.specs.List.{AllByRecursion}
+use Rattle.std.specs.Option.{option_or}
+use Rattle.eco_common.specs.declared.limits.TheConstants.{MAX_UNITS}
+use Rattle.eco_text.specs.Numbers.{at_most, natural_of, number_of, integer_of}
 use Rattle.eco_text.specs.Words.{Token, Walk, between, walk_of}
-use Rattle.eco_def.specs.Parsing.{Parser, refuse, begins, any, choose, new_name}
+use Rattle.eco_def.specs.declared.place.Place.{Place}
+use Rattle.eco_def.specs.Parsing.{Parser, refuse, begins, any, choose, new_name, valued, valued_as, bytes_ahead}
 use Rattle.eco_text.specs.Tokens.{is_word, is_name, is_one_of}
 use Rattle.eco_common.specs.Options.{first_some}
 use Rattle.eco_def.specs.Design.{Comp, TopPin, Part, Passed, Units, Comps, Pins, Special, Nets}
-use Rattle.eco_def.specs.Grammar.{comp_new_within, comp_new, comp, dir_of, PinClause, OnNet, Directed, Used, Other, pin_net, pin_dir, pin_use, pin_clause, pin_clauses, net_in, pin_on, pin_named, top_pin_new_within, top_pin_new, top_pin, units_number, units, comp_section_within, comp_section, pin_section_within, pin_section, special_section_within, special_section, net_section_within, net_section, passed_section, passed_up_to, passed_sections, passed_statements, Kind, CompKind, PinKind, SpecialKind, NetKind, have, once, part_new_within, part_new, part, parts_within, parts, comps_of, pins_of, or_none}
+use Rattle.eco_def.specs.Grammar.{orient_of, place, some_place, comp_clause, comp_place, units_of, last_some, comp_new_within, comp_new, comp, dir_of, PinClause, OnNet, Directed, Used, Other, pin_net, pin_dir, pin_use, pin_clause, pin_clauses, net_in, pin_on, pin_named, top_pin_new_within, top_pin_new, top_pin, units_number, units, comp_section_within, comp_section, pin_section_within, pin_section, special_section_within, special_section, net_section_within, net_section, passed_section, passed_up_to, passed_sections, passed_statements, Kind, CompKind, PinKind, SpecialKind, NetKind, have, once, part_new_within, part_new, part, parts_within, parts, comps_of, pins_of, or_none}
+use Rattle.eco_issued_laws.specs.Bounds.{IsCoordinate, HasCoordinates}
 use Rattle.eco_issued_laws.proofs.Allowed.{IsName}
 use Rattle.eco_issued_laws.proofs.Faults.{bad_statement, twice_named, unknown_heading}
-use Rattle.eco_issued_laws.proofs.Rules.{tests_word, keeps_word, keeps_valued, keeps_new_name, keeps_comp_place}
+use Rattle.eco_issued_laws.proofs.Rules.{tests_word, keeps_word, keeps_valued, keeps_new_name}
 use Rattle.eco_issued_laws.proofs.Pieces.{AllGood, good}
 use Rattle.eco_issued_laws.proofs.Ending.{chosen, refused, any_is}
 use Rattle.eco_issued_laws.proofs.Making.{name_of, Makes, makes_keeps, makes_give, makes_refuse, makes_any, makes_name, makes_choose, makes_then, makes_many}
@@ -20,7 +27,71 @@ use Rattle.eco_issued_laws.proofs.Whole.{keeps_nets, keeps_end_design}
 -- ---- a component
 
 abbrev pub CompOk : Comp → Type 0
-CompOk c = IsName c.name.bytes
+CompOk c = IsName c.name.bytes × HasCoordinates c.place
+
+-- a value of a word
+valued_ok : {A : Type 0} (C : A → Type 0) (f : List ℕ → Option A) → ((w : List ℕ) (x : A) → f w ≡ Some x → C x) → Makes C (valued f)
+valued_ok {A} C f each u x r g e = go (f (bytes_ahead u)) refl e
+  where
+    go : (o : Option A) → f (bytes_ahead u) ≡ o → valued_as o u ≡ Ok (x, r) → C x × AllGood r
+    go None is e = absurd (refused bad_statement u x r e)
+    go (Some y) is e = makes_then makes_any (λ w t. makes_give C {x = y} (each (bytes_ahead u) y is)) u x r g e
+
+le_of : (a b : ℕ) → nat_le a b ≡ true → a ≤ b
+le_of a b t = grind (arith, nat_tests)
+
+at_most_ok : (C : ℕ → Type 0) (limit : ℕ) → ((n : ℕ) → n ≤ limit → C n) → (o : Option ℕ) (n : ℕ) → at_most limit o ≡ Some n → C n
+at_most_ok C limit each None n e = absurd (cc)
+at_most_ok C limit each (Some k) n e = go (nat_le k limit) refl e
+  where
+    go : (b : Bool) → nat_le k limit ≡ b → (if b then Some k else None) ≡ Some n → C n
+    go true is e = let same : k ≡ n = cc in subst C same (each k (le_of k limit is))
+    go false is e = absurd (cc)
+
+signed_ok : (sign : ℕ → ℤ) (limit : ℕ) → ((n : ℕ) → n ≤ limit → IsCoordinate (sign n)) → (o : Option ℕ) (z : ℤ) → option_and_then (λ n. Some (sign n)) (at_most limit o) ≡ Some z → IsCoordinate z
+signed_ok sign limit each o z e = go (at_most limit o) refl e
+  where
+    go : (m : Option ℕ) → at_most limit o ≡ m → option_and_then (λ n. Some (sign n)) m ≡ Some z → IsCoordinate z
+    go None is e = absurd (cc)
+    go (Some n) is e = let same : sign n ≡ z = cc in subst IsCoordinate same (at_most_ok (λ k. IsCoordinate (sign k)) limit each o n is)
+
+integer_ok : (w : List ℕ) (z : ℤ) → integer_of w ≡ Some z → IsCoordinate z
+integer_ok [] z e = absurd (cc)
+integer_ok (c ∷ cs) z e = go (c == 45) e
+  where
+    go : (b : Bool) →
+        (if b then option_and_then (λ n. Some (neg_ℤ (pos n))) (at_most (2 ^ 31) (natural_of cs)) else option_and_then (λ n. Some (pos n)) (at_most (2 ^ 31 - 1) (natural_of (c ∷ cs)))) ≡ Some z → IsCoordinate z
+    go true e = signed_ok (λ n. neg_ℤ (pos n)) (2 ^ 31) (λ n le. (omega (arith, ints), omega (arith, ints))) (natural_of cs) z e
+    go false e = signed_ok (λ n. pos n) (2 ^ 31 - 1) (λ n le. (omega (arith, ints), omega (arith, ints))) (natural_of (c ∷ cs)) z e
+
+abbrev PlaceOk : Place → Type 0
+PlaceOk p = IsCoordinate p.point.x × IsCoordinate p.point.y
+
+place_ok : Makes PlaceOk place
+unfolding place
+place_ok =
+    makes_then (makes_keeps (keeps_word (codes "("))) (λ o t.
+    makes_then (valued_ok IsCoordinate integer_of integer_ok) (λ x first.
+    makes_then (valued_ok IsCoordinate integer_of integer_ok) (λ y second.
+    makes_then (makes_keeps (keeps_word (codes ")"))) (λ c t.
+    makes_then (makes_keeps (keeps_valued orient_of)) (λ orient t. makes_give PlaceOk {x = record { point = record { x = x; y = y }; orient = orient }} (first, second))))))
+
+comp_clause_ok : Makes HasCoordinates comp_clause
+unfolding comp_clause some_place
+comp_clause_ok =
+    makes_choose (is_word (codes "+"))
+    (makes_then makes_any (λ plus t. makes_choose (is_one_of (codes "PLACED" ∷ codes "FIXED" ∷ codes "COVER" ∷ []))
+    (makes_then makes_any (λ kind t. makes_then place_ok (λ p ok. makes_give HasCoordinates {x = Some p} ok))) (makes_give HasCoordinates {x = None} tt)))
+    (makes_then makes_any (λ other t. makes_give HasCoordinates {x = None} tt))
+
+first_ok : (ps : List (Option Place)) → AllByRecursion HasCoordinates ps → HasCoordinates (first_some ps)
+first_ok [] all = tt
+first_ok (None ∷ ps) all = first_ok ps all.1
+first_ok (Some p ∷ ps) all = all.0
+
+comp_place_ok : Makes HasCoordinates comp_place
+unfolding comp_place
+comp_place_ok = makes_then (makes_many HasCoordinates (λ w. not (is_word (codes ";") w)) (λ before. comp_clause) (λ xs. comp_clause_ok)) (λ ps all. makes_give HasCoordinates {x = first_some ps} (first_ok ps all))
 
 new_name_ok : (known : List ℕ → Bool) → Makes (λ w. IsName w.bytes) (new_name known)
 new_name_ok known u x r g e =
@@ -36,8 +107,8 @@ comp_ok known =
     makes_then (makes_keeps (keeps_word (codes "-"))) (λ d t.
     makes_then (new_name_ok known) (λ n ok.
     makes_then makes_name (λ m t.
-    makes_then (makes_keeps keeps_comp_place) (λ p t.
-    makes_then (makes_keeps (keeps_word (codes ";"))) (λ e t. makes_give CompOk ok)))))
+    makes_then comp_place_ok (λ p placed.
+    makes_then (makes_keeps (keeps_word (codes ";"))) (λ e t. makes_give CompOk (ok, placed))))))
 
 -- ---- a pin
 
@@ -89,7 +160,19 @@ pin_ok known =
 abbrev pub PartOk : Part → Type 0
 PartOk (Comps cs) = AllByRecursion CompOk cs
 PartOk (Pins ps) = AllByRecursion PinOk ps
+PartOk (Units n) = n ≤ MAX_UNITS
 PartOk _ = Unit {0}
+
+units_number_ok : (w : List ℕ) (n : ℕ) → units_number w ≡ Some n → n ≤ MAX_UNITS
+units_number_ok w n e = go (at_most 1000000 (number_of w)) refl e
+  where
+    go : (m : Option ℕ) → at_most 1000000 (number_of w) ≡ m → option_and_then (λ k. if nat_le 1 k then Some k else None) m ≡ Some n → n ≤ MAX_UNITS
+    go None is e = absurd (cc)
+    go (Some k) is e = inner (nat_le 1 k) e
+      where
+        inner : (b : Bool) → (if b then Some k else None) ≡ Some n → n ≤ MAX_UNITS
+        inner true e = let same : k ≡ n = cc in subst (λ j. j ≤ MAX_UNITS) same (at_most_ok (λ j. j ≤ MAX_UNITS) 1000000 (λ j le. le) (number_of w) k is)
+        inner false e = absurd (cc)
 
 pins_ok : Makes PartOk pin_section
 unfolding pin_section_within
@@ -102,7 +185,7 @@ units_ok : Makes PartOk units
 unfolding units
 units_ok =
     makes_then (makes_keeps (keeps_word (codes "UNITS"))) (λ a t. makes_then (makes_keeps (keeps_word (codes "DISTANCE"))) (λ a t. makes_then (makes_keeps (keeps_word (codes "MICRONS"))) (λ a t.
-    makes_then (makes_keeps (keeps_valued units_number)) (λ n t. makes_then (makes_keeps (keeps_word (codes ";"))) (λ e t. makes_give PartOk {x = Units n} tt)))))
+    makes_then (valued_ok (λ n. n ≤ MAX_UNITS) units_number units_number_ok) (λ n few. makes_then (makes_keeps (keeps_word (codes ";"))) (λ e t. makes_give PartOk {x = Units n} few)))))
 
 comps_ok : Makes PartOk comp_section
 unfolding comp_section_within
@@ -179,3 +262,20 @@ pin_nets_named text ps r e = pins_of_parts ps (parts_ok (walk_of text) ps r (goo
 -- so is each component's name
 pub comps_named : (text : List ℕ) (ps : List Part) (r : Walk) → parts (walk_of text) ≡ Ok (ps, r) → AllByRecursion CompOk (or_none (first_some (map comps_of ps)))
 comps_named text ps r e = comps_of_parts ps (parts_ok (walk_of text) ps r (good text between 0 tt) e).0
+
+units_of_parts : (ps : List Part) → AllByRecursion PartOk ps → IfSome (last_some (map units_of ps)) (λ n. n ≤ MAX_UNITS)
+units_of_parts [] all = tt
+units_of_parts (p ∷ ps) all = go (last_some (map units_of ps)) (units_of_parts ps all.1) p all.0
+  where
+    go : (later : Option ℕ) → IfSome later (λ n. n ≤ MAX_UNITS) → (p : Part) → PartOk p → IfSome (option_or later (units_of p)) (λ n. n ≤ MAX_UNITS)
+    go (Some n) few p ok = few
+    go None few Passed ok = tt
+    go None few (Units n) ok = ok
+    go None few (Comps cs) ok = tt
+    go None few (Pins qs) ok = tt
+    go None few (Special ss) ok = tt
+    go None few (Nets s) ok = tt
+
+-- the units of a text are bounded
+pub units_bounded : (text : List ℕ) (ps : List Part) (r : Walk) → parts (walk_of text) ≡ Ok (ps, r) → IfSome (last_some (map units_of ps)) (λ n. n ≤ MAX_UNITS)
+units_bounded text ps r e = units_of_parts ps (parts_ok (walk_of text) ps r (good text between 0 tt) e).0

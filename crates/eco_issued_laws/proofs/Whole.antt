@@ -20,7 +20,7 @@ use Rattle.eco_issued_laws.proofs.Repeating.{Beside, beside_map, keeps_many}
 use Rattle.eco_issued_laws.proofs.Rules.{tests_word, tests_one_of, tests_not, keeps_fewer, keeps_net}
 use Rattle.eco_issued_laws.proofs.Editing.{At}
 use Rattle.eco_issued_laws.proofs.Ending.{Ends, next_is, chosen, refused, plain_word_is}
-use Rattle.eco_issued_laws.proofs.Along.{now, Along, Issues, loop, issues_keeps, issues_none}
+use Rattle.eco_issued_laws.proofs.Along.{now, Along, Issues, chosen_along, loop, issues_keeps, issues_none}
 use Rattle.eco_issued_laws.proofs.Passing.{IssuedPart, more_words, keeps_head, keeps_end, keeps_comp_section, ends_comp_section, keeps_pin_section, ends_pin_section, keeps_units, ends_units, keeps_passed_section, ends_passed_section, keeps_passed, ends_passed}
 use Rattle.eco_issued_laws.proofs.Sections.{special_along, net_along, stop_many}
 
@@ -163,26 +163,8 @@ module _ (text : List ℕ) (o : Changes) (ok : (special : Bool) (n : List ℕ) �
   follows_choose : (f : Token → Bool) (p p' : Parser Part) → Tests f f → Follows p → Follows p' → Follows (choose f p p')
   follows_choose f p p' test yes' no' q u x r at e allows =
       chosen f p p' u x r e (Along text (IssuedPart o) (part_edits text o) (λ i. Unit {0}) (λ (i : Unit {0}). choose f p p') q x u r)
-      (λ i e. let a = yes' q u x r at e allows in record {
-        place = a.place;
-        at = a.at;
-        closed = a.closed;
-        later = a.later;
-        ahead = a.ahead;
-        first = a.first;
-        reads = λ j w k es h. let y = a.reads j w k es h in
-            (y.0, y.1, ap (λ b. if b then p (now text k q (part_edits text o x ++ es)) else p' (now text k q (part_edits text o x ++ es))) (begins_again test u (now text k q (part_edits text o x ++ es)) (a.first k es h) ∙ i) ∙ y.2, y.3);
-      })
-      (λ i e. let a = no' q u x r at e allows in record {
-        place = a.place;
-        at = a.at;
-        closed = a.closed;
-        later = a.later;
-        ahead = a.ahead;
-        first = a.first;
-        reads = λ j w k es h. let y = a.reads j w k es h in
-            (y.0, y.1, ap (λ b. if b then p (now text k q (part_edits text o x ++ es)) else p' (now text k q (part_edits text o x ++ es))) (begins_again test u (now text k q (part_edits text o x ++ es)) (a.first k es h) ∙ i) ∙ y.2, y.3);
-      })
+      (λ is e. chosen_along text (IssuedPart o) (part_edits text o) (λ (i : Unit {0}). Unit {0}) f true (λ i. p) (λ i. p') test q x u r is (yes' q u x r at e allows))
+      (λ is e. chosen_along text (IssuedPart o) (part_edits text o) (λ (i : Unit {0}). Unit {0}) f false (λ i. p) (λ i. p') test q x u r is (no' q u x r at e allows))
 
   follows_once : (seen : Kind → Bool) (k : Kind) (p : Parser Part) → Follows p → Follows (once seen k p)
   follows_once seen k p f = go (seen k)

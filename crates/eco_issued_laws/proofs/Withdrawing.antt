@@ -7,7 +7,7 @@ use Rattle.eco_def.specs.Design.{Joint, Net, NetSection, Design}
 use Rattle.eco_def.specs.Named.{NamedJoint, NamedNet, NamedDesign, joint_names, net_names, names_of}
 use Rattle.eco_def.specs.Grammar.{design_of}
 use Rattle.eco_common.specs.Joints.{NewJoint}
-use Rattle.eco_issued_laws.specs.Changes.{Fresh, Changes, pin_precedes, precedes, in_order, is_of, stays_on, stands, has_statement, pin_of, new_pins, is_nil, once_each, stated_first, fresh_nets, changes_of}
+use Rattle.eco_issued_laws.specs.Changes.{Fresh, Changes, pin_precedes, precedes, in_order, is_joint_of, stays_on, stands, has_statement, pin_joint, new_pins, is_nil, once_each, stated_first, fresh_nets, changes_of}
 use Rattle.eco_issued_laws.specs.Issued.{Edit, joint_words, tail_text, kept_text, stays_whole, statement_text, net_text, count_text, fresh_text, net_edit, special_edits, section_edits, nets_first, edits, edited, issued_text}
 use Rattle.eco_issued_laws.specs.Printing.{spaced}
 use Rattle.eco_issued_laws.specs.Withdrawals.{NothingIssued, is_only_on, stands_there, StandingIssued}
@@ -39,7 +39,7 @@ module _ (text : List ℕ) (d : NamedDesign) where
 
   quiet_net : (special : Bool) (s : Net) → IsQuiet text (net_edit text none special s)
   quiet_net special s =
-      ap (λ b. if (if b then is_nil (none.added special s.name.bytes) else false) then slice_range text s.start s.end else changed) (all_true s.joints)
+      ap (λ b. if b && is_nil (none.added special s.name.bytes) then slice_range text s.start s.end else changed) (all_true s.joints)
       ∙ go (special && has_statement d.nets s.name.bytes)
     where
       changed : List ℕ
@@ -74,7 +74,7 @@ nothing_issued text d is =
 -- ---- a joint that stands already
 
 -- a joint stays exactly where it did
-stay_same : (n : NewJoint) (joints : List NewJoint) (net : List ℕ) (j : NamedJoint) → (not (is_of n j) || bytes_eq n.net net) ≡ true → stays_on (n ∷ joints) net j ≡ stays_on joints net j
+stay_same : (n : NewJoint) (joints : List NewJoint) (net : List ℕ) (j : NamedJoint) → (not (is_joint_of n j) || bytes_eq n.net net) ≡ true → stays_on (n ∷ joints) net j ≡ stays_on joints net j
 stay_same n joints net j e = ap (λ b. b && stays_on joints net j) e
 
 all_same : {A : Type 0} (p q : A → Bool) (xs : List A) → AllByRecursion (λ x. p x ≡ q x) xs → list_all p xs ≡ list_all q xs
@@ -99,8 +99,8 @@ module _ (text : List ℕ) (d : NamedDesign) (n : NewJoint) (joints : List NewJo
       rest : List NewJoint
       rest = filter (λ m. bytes_eq m.net net && not (stands (d.special ++ d.nets) m)) joints
 
-      go : (b : Bool) → in_order pin_precedes (map pin_of (if b && not (stands (d.special ++ d.nets) n) then n ∷ filter (λ m. bytes_eq m.net net && not (stands (d.special ++ d.nets) m)) joints else filter (λ m. bytes_eq m.net net && not (stands (d.special ++ d.nets) m)) joints)) ≡ new_pins d joints net
-      go true = ap (λ b. in_order pin_precedes (map pin_of (if not b then n ∷ filter (λ m. bytes_eq m.net net && not (stands (d.special ++ d.nets) m)) joints else filter (λ m. bytes_eq m.net net && not (stands (d.special ++ d.nets) m)) joints))) stand
+      go : (b : Bool) → in_order pin_precedes (map pin_joint (if b && not (stands (d.special ++ d.nets) n) then n ∷ filter (λ m. bytes_eq m.net net && not (stands (d.special ++ d.nets) m)) joints else filter (λ m. bytes_eq m.net net && not (stands (d.special ++ d.nets) m)) joints)) ≡ new_pins d joints net
+      go true = ap (λ b. in_order pin_precedes (map pin_joint (if not b then n ∷ filter (λ m. bytes_eq m.net net && not (stands (d.special ++ d.nets) m)) joints else filter (λ m. bytes_eq m.net net && not (stands (d.special ++ d.nets) m)) joints))) stand
       go false = refl
 
   stated_same : stated_first d (n ∷ joints) ≡ stated_first d joints
@@ -120,17 +120,17 @@ module _ (text : List ℕ) (d : NamedDesign) (n : NewJoint) (joints : List NewJo
   added_same : (special : Bool) (net : List ℕ) → more.added special net ≡ fewer.added special net
   added_same special net = ap (λ ps. if special && has_statement d.nets net then [] else ps) (pins_same net)
 
-  stays_same : (s : Net) (js : List Joint) → list_all (λ j. not (is_of n j) || bytes_eq n.net s.name.bytes) (map joint_names js) ≡ true → AllByRecursion (λ j. more.stays s.name.bytes (joint_names j) ≡ fewer.stays s.name.bytes (joint_names j)) js
+  stays_same : (s : Net) (js : List Joint) → list_all (λ j. not (is_joint_of n j) || bytes_eq n.net s.name.bytes) (map joint_names js) ≡ true → AllByRecursion (λ j. more.stays s.name.bytes (joint_names j) ≡ fewer.stays s.name.bytes (joint_names j)) js
   stays_same s [] e = tt
   stays_same s (j ∷ js) e =
-      let b = and_parts (not (is_of n (joint_names j)) || bytes_eq n.net s.name.bytes) (list_all (λ j. not (is_of n j) || bytes_eq n.net s.name.bytes) (map joint_names js)) e in
+      let b = and_parts (not (is_joint_of n (joint_names j)) || bytes_eq n.net s.name.bytes) (list_all (λ j. not (is_joint_of n j) || bytes_eq n.net s.name.bytes) (map joint_names js)) e in
       (stay_same n joints s.name.bytes (joint_names j) b.0, stays_same s js b.1)
 
   net_same : (special : Bool) (s : Net) → is_only_on n (net_names s) ≡ true → net_edit text more special s ≡ net_edit text fewer special s
   net_same special s only =
       let each = stays_same s s.joints only in
       let whole : stays_whole more special s ≡ stays_whole fewer special s =
-      ap₂ (λ b ps. if b then is_nil ps else false) (all_same (λ j. more.stays s.name.bytes (joint_names j)) (λ j. fewer.stays s.name.bytes (joint_names j)) s.joints each) (added_same special s.name.bytes) in
+      ap₂ (λ b ps. b && is_nil ps) (all_same (λ j. more.stays s.name.bytes (joint_names j)) (λ j. fewer.stays s.name.bytes (joint_names j)) s.joints each) (added_same special s.name.bytes) in
       let kept = kept_same text (more.stays s.name.bytes) (fewer.stays s.name.bytes) s.joints each in
       ap (λ bytes. let e : Edit = record { start = s.start; end = s.end; bytes = bytes } in e)
       (ap (λ b. if b then slice_range text s.start s.end else statement_text text (more.stays s.name.bytes) (more.added special s.name.bytes) special s) whole

@@ -29,31 +29,39 @@ in_order before (x ∷ xs) = put_in before x (in_order before xs)
 
 -- ---- the joints of a net
 
+-- the statements of SPECIALNETS, and then those of NETS
+abbrev pub statements : NamedDesign → List NamedNet
+statements d = d.special ++ d.nets
+
 -- PIN names the design's own pins, and * every component that has the pin: no component
 abbrev pub is_no_component : List ℕ → Bool
 is_no_component comp = bytes_eq comp (codes "PIN") || bytes_eq comp (codes "*")
 
 -- the joint is of that pin
-abbrev pub is_of : NewJoint → NamedJoint → Bool
-is_of n j = not (is_no_component j.comp) && (bytes_eq n.comp j.comp && bytes_eq n.pin j.pin)
+abbrev pub is_joint_of : NewJoint → NamedJoint → Bool
+is_joint_of n j = not (is_no_component j.comp) && (bytes_eq n.comp j.comp && bytes_eq n.pin j.pin)
 
 -- A joint of a net goes where its pin is put on another net, and stays otherwise.
 abbrev pub stays_on : List NewJoint → List ℕ → NamedJoint → Bool
-stays_on joints net j = list_all (λ n. not (is_of n j) || bytes_eq n.net net) joints
+stays_on joints net j = list_all (λ n. not (is_joint_of n j) || bytes_eq n.net net) joints
 
 -- some statement of the pin's net has its joint
 abbrev pub stands : List NamedNet → NewJoint → Bool
-stands statements n = list_any (λ s. bytes_eq s.name n.net && list_any (is_of n) s.joints) statements
+stands ss n = list_any (λ s. bytes_eq s.name n.net && list_any (is_joint_of n) s.joints) ss
 
 abbrev pub has_statement : List NamedNet → List ℕ → Bool
-has_statement statements net = list_any (λ s. bytes_eq s.name net) statements
+has_statement ss net = list_any (λ s. bytes_eq s.name net) ss
 
-abbrev pub pin_of : NewJoint → NamedJoint
-pin_of n = record { comp = n.comp; pin = n.pin }
+-- a net is in a design where it has a statement or a top pin names it
+abbrev pub has_net : NamedDesign → List ℕ → Bool
+has_net d net = has_statement (statements d) net || list_any (λ p. bytes_eq p.net net) d.pins
+
+abbrev pub pin_joint : NewJoint → NamedJoint
+pin_joint n = record { comp = n.comp; pin = n.pin }
 
 -- the pins that are put on a net and don't stand there yet, in order
 abbrev pub new_pins : NamedDesign → List NewJoint → List ℕ → List NamedJoint
-new_pins d joints net = in_order pin_precedes (map pin_of (filter (λ n. bytes_eq n.net net && not (stands (d.special ++ d.nets) n)) joints))
+new_pins d joints net = in_order pin_precedes (map pin_joint (filter (λ n. bytes_eq n.net net && not (stands (statements d) n)) joints))
 
 -- ---- nets without a statement
 
@@ -73,7 +81,7 @@ once_each (n ∷ ns) = n ∷ filter (λ m. not (bytes_eq m n)) (once_each ns)
 
 -- the nets that only top pins name, and that get a pin
 abbrev pub stated_first : NamedDesign → List NewJoint → List (List ℕ)
-stated_first d joints = filter (λ net. not (has_statement (d.special ++ d.nets) net) && not (is_nil (new_pins d joints net))) (once_each (map (λ p. p.net) d.pins))
+stated_first d joints = filter (λ net. not (has_statement (statements d) net) && not (is_nil (new_pins d joints net))) (once_each (map (λ p. p.net) d.pins))
 
 abbrev pub fresh_nets : NamedDesign → List NewJoint → List (List ℕ) → List Fresh
 fresh_nets d joints nets = map (λ name. record { name = name; joints = new_pins d joints name }) (in_order precedes (nets ++ stated_first d joints))

@@ -1,6 +1,6 @@
 -- The issued text: a text whose nets have other joints. LEF/DEF 5.8 Language Reference, "Nets" and "Special Nets",
 -- in the form of docs/FORMATS.md.
-use Rattle.std.specs.Prelude.{◌≡◌, ℕ, ◌+◌, ◌≤◌, nat_lt, Bool, true, false, List, [], ◌∷◌, ◌++◌, length, map, drop, slice_range, Option, Some, None, if◌then◌else◌, codes}
+use Rattle.std.specs.Prelude.{◌≡◌, ℕ, ◌+◌, ◌≤◌, nat_lt, Bool, true, false, ◌&&◌, List, [], ◌∷◌, ◌++◌, length, map, drop, slice_range, Option, Some, None, if◌then◌else◌, codes}
 use Rattle.std.specs.List.{flat_map, list_all, filter}
 use Rattle.eco_text.specs.Words.{Token}
 use Rattle.eco_def.specs.Design.{Joint, Net, NetSection, Design}
@@ -52,8 +52,9 @@ joints_end at (j ∷ js) = joints_end j.end js
 abbrev pub tail_text : List ℕ → Bool → Net → List ℕ
 tail_text text special s = if special then slice_range text (joints_end s.name.end s.joints) s.end else spaced (use_words s.usage ++ codes ";" ∷ [])
 
+-- nothing changes in a statement
 abbrev pub stays_whole : Changes → Bool → Net → Bool
-stays_whole o special s = if list_all (λ j. o.stays s.name.bytes (joint_names j)) s.joints then is_nil (o.added special s.name.bytes) else false
+stays_whole o special s = list_all (λ j. o.stays s.name.bytes (joint_names j)) s.joints && is_nil (o.added special s.name.bytes)
 
 -- a statement with the joints that stay, and these pins
 abbrev pub statement_text : List ℕ → (NamedJoint → Bool) → List NamedJoint → Bool → Net → List ℕ

@@ -4,3 +4,4 @@ pub mod Issued
 pub mod ReadingBack
 pub mod Withdrawals
 pub mod NewNets
+pub mod Bounds

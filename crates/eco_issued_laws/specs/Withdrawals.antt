@@ -6,7 +6,7 @@ use Rattle.eco_def.specs.Design.{Design}
 use Rattle.eco_def.specs.Grammar.{design_of}
 use Rattle.eco_def.specs.Named.{NamedNet, NamedDesign, names_of}
 use Rattle.eco_common.specs.Joints.{NewJoint}
-use Rattle.eco_issued_laws.specs.Changes.{is_of, stands}
+use Rattle.eco_issued_laws.specs.Changes.{is_joint_of, stands}
 use Rattle.eco_issued_laws.specs.Issued.{issued_text}
 
 -- A law: no joints and no new nets give the text itself, byte for byte.
@@ -15,7 +15,7 @@ NothingIssued = (text : List ℕ) (d : Design) → design_of text ≡ Ok d → i
 
 -- each joint of the pin is in a statement of this net
 abbrev pub is_only_on : NewJoint → NamedNet → Bool
-is_only_on n s = list_all (λ j. not (is_of n j) || bytes_eq n.net s.name) s.joints
+is_only_on n s = list_all (λ j. not (is_joint_of n j) || bytes_eq n.net s.name) s.joints
 
 -- the pin stands on its net already, and on no other
 abbrev pub stands_there : NamedDesign → NewJoint → Bool

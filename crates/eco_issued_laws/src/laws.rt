@@ -1,3 +1,4 @@
+ghost use Rattle.eco_issued_laws.specs.Bounds.{DesignsAreBounded};
 ghost use Rattle.eco_issued_laws.specs.Withdrawals.{NothingIssued, StandingIssued};
 ghost use Rattle.eco_issued_laws.specs.ReadingBack.{Outside, ReadsBack};
 
@@ -21,4 +22,9 @@ pub fn nothing_issued()
 /// A law: a joint of a pin that stands on its net already, and on no other, changes nothing.
 pub fn standing_issued()
     ensures { StandingIssued }
+{}
+
+/// A law: a design has at most 1,000,000 database units per micron, and its components' coordinates are within 32 bits.
+pub fn designs_are_bounded()
+    ensures { DesignsAreBounded }
 {}

@@ -8,5 +8,5 @@ mod laws;
 mod new_nets;
 
 pub use crate::component_name::is_no_component;
-pub use crate::laws::{nothing_issued, outside, reads_back, standing_issued};
+pub use crate::laws::{designs_are_bounded, nothing_issued, outside, reads_back, standing_issued};
 pub use crate::new_nets::can_be_new;

@@ -5,6 +5,8 @@ ghost use Rattle.std.specs.List.{list_all};
 ghost use Rattle.std.specs.Str.{bytes_eq};
 ghost use Rattle.eco_issued_laws.specs.NewNets.{begins_net as is_begin, is_net_byte as is_in_net, can_be_new as can_name_new};
 
+use eco_common::MAX_NEW_NET_BYTES;
+
 /// Whether a new net's name may begin with the byte: a letter or `_`.
 fn begins_net(byte: u8) -> bool
     ensures { result ≡ is_begin byte }
@@ -39,7 +41,10 @@ pub fn can_be_new(name: &[u8]) -> bool
     match name.split_first() {
         None => false,
         Some((first, rest)) => {
-            begins_net(*first) && are_net_bytes(rest) && name.len() <= 255 && !is_mustjoin(name)
+            begins_net(*first)
+                && are_net_bytes(rest)
+                && name.len() <= MAX_NEW_NET_BYTES
+                && !is_mustjoin(name)
         }
     }
 }

@@ -2,7 +2,7 @@
 use Rattle.std.specs.Option.{option_or}
 use Rattle.eco_common.specs.declared.geometry.Dir.{Dir}
 use Rattle.std.proofs.Common.{◌≡◌, Bool, List, [], ◌∷◌, ◌++◌, map, Option, Some, None, refl, ap, ◌∙◌}
-use Rattle.eco_lef.specs.declared.statement.Size.{Size}
+use Rattle.eco_common.specs.declared.geometry.Size.{Size}
 use Rattle.eco_lef.specs.declared.master.MasterPin.{MasterPin}
 use Rattle.eco_lef.specs.declared.pin_statements.PinBody.{PinBody}
 use Rattle.eco_lef.specs.declared.macro_statements.MacroBody.{MacroBody}

@@ -1,10 +1,14 @@
--- The names of a library are words that a text can have as names.
-use Rattle.std.specs.List.{list_all}
-use Rattle.std.proofs.Common.{◌≡◌, ℕ, zero, suc, ◌+◌, ◌==◌, ◌&&◌, ◌||◌, not, Bool, true, false, List, [], ◌∷◌, ◌++◌, length, Option, Some, None, Result, Ok, Err, refl, ap, sym, subst, ◌∙◌, true≢false, codes, if◌then◌else◌}
+-- The names of a library are words that a text can have as names, and its sizes keep the limit.
+use Rattle.std.specs.Char.{is_ascii_digit}
+use Rattle.std.specs.List.{list_all, list_any}
+use Rattle.std.proofs.Common.{◌≡◌, ℕ, zero, suc, ◌+◌, ◌==◌, ◌&&◌, ◌||◌, not, Bool, true, false, List, [], ◌∷◌, ◌++◌, length, nat_le, map, unwrap_or, Option, Some, None, Result, Ok, Err, refl, ap, sym, subst, ◌∙◌, true≢false, codes, if◌then◌else◌}
 use Rattle.std.proofs.lemmas.Bool.{and_parts}
 use Rattle.std.proofs.lemmas.List.Folds.{list_all-append}
 use Rattle.eco_common.specs.declared.geometry.Dir.TheVariants.{Input, Output, Inout}
-use Rattle.eco_text.specs.Numbers.{microns_of}
+use Rattle.eco_common.specs.declared.limits.TheConstants.{MAX_MILLIONTHS}
+use Rattle.eco_common.specs.Options.{first_some}
+use Rattle.eco_common.specs.Sizes.{keeps_limit}
+use Rattle.eco_text.specs.Numbers.{at_most, digits_behind, whole_part, decimals, six_of, microns_of}
 use Rattle.eco_text.specs.Words.{Token, Walk, Mode, finished, open_quote, word_then, between, comment, plain, quote, is_blank, plain_word, quoted_word, step, walk, walk_of, ◌+++◌}
 use Rattle.eco_lef.specs.declared.fault.LefFault.{LefFault}
 use Rattle.eco_lef.specs.declared.fault.LefFault.TheVariants.{TwiceNamed, TooManyMasters, ArrayBlock, BadStatement}
@@ -19,8 +23,9 @@ use Rattle.eco_lef.specs.Known.{names_of, pin_names}
 use Rattle.eco_lef.specs.Parsing.{Parser, ◌>>=◌, then_read, then_more, give, refuse, any, pass_one, begins, choose, next, word, valued, valued_as, bytes_ahead, pass_to, pass_to_both, new_name, many, many_for, word_count}
 use Rattle.eco_text.specs.Tokens.{is_word, is_one_of, is_name, can_name}
 use Rattle.eco_common.specs.NameBytes.{is_among}
-use Rattle.eco_lef.specs.Grammar.{block_ends, unless_ended, output, plain_dir, dir, direction, plain_use, supply_use, use_said, pin_use, passed_in_pin, pin_end, pin_statement, pin_said, pin_body, pin_of, pin, size, passed_in_macro, macro_end, macro_statement_new, macro_statement, pins_of, macro_said, macro_body, master_of, defined, named_blocks, plain_blocks, pass_block, named_block, plain_block, passed_in_library, library_end, statement_under, library_statement_new, library_statement, masters_of, masters, value_read}
+use Rattle.eco_lef.specs.Grammar.{block_ends, unless_ended, output, plain_dir, dir, direction, plain_use, supply_use, use_said, pin_use, passed_in_pin, pin_end, pin_statement, pin_said, pin_body, pin_of, pin, size, passed_in_macro, macro_end, macro_statement_new, macro_statement, pins_of, size_said, no_size, macro_said, macro_body, master_of, defined, named_blocks, plain_blocks, pass_block, named_block, plain_block, passed_in_library, library_end, statement_under, library_statement_new, library_statement, masters_of, masters, value_read, library_of}
 use Rattle.eco_lef.specs.Names.{are_words, NamesAreWords}
+use Rattle.eco_lef.specs.Sizes.{size_of, KeepSizes}
 
 both : (a b : Bool) → a ≡ true → b ≡ true → (a && b) ≡ true
 both true b p q = q
@@ -155,6 +160,33 @@ makes_word inside keyword = makes_next inside (is_word keyword)
 makes_valued_as : {A : Type 0} (inside : List ℕ) (o : Option A) → Makes Free (valued_as inside o)
 makes_valued_as inside None = makes_refuse Free inside BadStatement
 makes_valued_as inside (Some x) = makes_then (makes_any inside) (λ w t. makes_give Free x tt)
+
+-- ---- lengths
+
+at_most_keeps : (limit : ℕ) (o : Option ℕ) (n : ℕ) → at_most limit o ≡ Some n → nat_le n limit ≡ true
+at_most_keeps limit None n e = absurd (cc)
+at_most_keeps limit (Some k) n e = go (nat_le k limit) refl e
+  where
+    go : (b : Bool) → nat_le k limit ≡ b → (if b then Some k else None) ≡ Some n → nat_le n limit ≡ true
+    go true is e = let same : k ≡ n = cc in subst (λ z. nat_le z limit ≡ true) same is
+    go false is e = absurd (cc)
+
+microns_keep : (w : List ℕ) (n : ℕ) → microns_of w ≡ Some n → nat_le n MAX_MILLIONTHS ≡ true
+microns_keep w n e = go (list_any is_ascii_digit w && list_all is_ascii_digit (decimals w)) e
+  where
+    go : (b : Bool) → (if b then at_most MAX_MILLIONTHS (digits_behind 0 (whole_part w ++ six_of (decimals w))) else None) ≡ Some n → nat_le n MAX_MILLIONTHS ≡ true
+    go true e = at_most_keeps MAX_MILLIONTHS (digits_behind 0 (whole_part w ++ six_of (decimals w))) n e
+    go false e = absurd (cc)
+
+abbrev KeepsLimit : ℕ → Type 0
+KeepsLimit n = nat_le n MAX_MILLIONTHS ≡ true
+
+makes_length_as : (inside : List ℕ) (o : Option ℕ) → ((n : ℕ) → o ≡ Some n → KeepsLimit n) → Makes KeepsLimit (valued_as inside o)
+makes_length_as inside None keeps = makes_refuse KeepsLimit inside BadStatement
+makes_length_as inside (Some n) keeps = makes_then (makes_any inside) (λ w t. makes_give KeepsLimit n (keeps n refl))
+
+makes_length : (inside : List ℕ) → Makes KeepsLimit (valued inside microns_of)
+makes_length inside = record { makes = λ u x r g e. (makes_length_as inside (microns_of (bytes_ahead u)) (microns_keep (bytes_ahead u))).makes u x r g e }
 
 makes_valued : {A : Type 0} (inside : List ℕ) (f : List ℕ → Option A) → Makes Free (valued inside f)
 makes_valued inside f = record { makes = λ u x r g e. (makes_valued_as inside (f (bytes_ahead u))).makes u x r g e }
@@ -293,9 +325,9 @@ makes_pin_body inside = makes_then (makes_many always inside (λ before. pin_sta
 
 -- ---- in a macro
 
--- a pin's name is a word
+-- a pin's name is a word, and a size keeps the limit
 abbrev named_pin : MacroStatement → Bool
-named_pin (Sized z) = true
+named_pin (Sized z) = keeps_limit z
 named_pin (Pinned p) = can_name p.name
 named_pin OtherInMacro = true
 
@@ -307,8 +339,9 @@ makes_pin inside known =
 makes_size : (inside : List ℕ) → Makes (Passes named_pin) (size inside)
 unfolding size
 makes_size inside =
-    makes_then (makes_any inside) (λ h t. makes_then (makes_valued inside microns_of) (λ width t. makes_then (makes_word inside (codes "BY")) (λ b t.
-    makes_then (makes_valued inside microns_of) (λ height t. makes_then (makes_word inside (codes ";")) (λ e t. makes_give (Passes named_pin) (Some (Sized (record { width = width; height = height }))) refl)))))
+    makes_then (makes_any inside) (λ h t. makes_then (makes_length inside) (λ width wide. makes_then (makes_word inside (codes "BY")) (λ b t.
+    makes_then (makes_length inside) (λ height high. makes_then (makes_word inside (codes ";")) (λ e t.
+    makes_give (Passes named_pin) (Some (Sized (record { width = width; height = height }))) (both (nat_le width MAX_MILLIONTHS) (nat_le height MAX_MILLIONTHS) wide high))))))
 
 makes_passed_in_macro : (inside keyword : List ℕ) → Makes (Passes named_pin) (passed_in_macro inside keyword)
 unfolding passed_in_macro
@@ -329,30 +362,40 @@ makes_macro_statement inside known =
 
 pins_named : (ss : List MacroStatement) → list_all named_pin ss ≡ true → list_all (λ p. can_name p.name) (pins_of ss) ≡ true
 pins_named [] all = refl
-pins_named (Sized z ∷ ss) all = pins_named ss all
+pins_named (Sized z ∷ ss) all = pins_named ss (and_parts (keeps_limit z) (list_all named_pin ss) all).1
 pins_named (Pinned p ∷ ss) all = let parts = and_parts (can_name p.name) (list_all named_pin ss) all in both (can_name p.name) (list_all (λ p. can_name p.name) (pins_of ss)) parts.0 (pins_named ss parts.1)
 pins_named (OtherInMacro ∷ ss) all = pins_named ss all
 
-abbrev PinsNamed : MacroBody → Type 0
-PinsNamed b = list_all (λ p. can_name p.name) b.pins ≡ true
+size_keeps : (ss : List MacroStatement) → list_all named_pin ss ≡ true → keeps_limit (unwrap_or (first_some (map size_said ss)) no_size) ≡ true
+size_keeps [] all = refl
+size_keeps (Sized z ∷ ss) all = (and_parts (keeps_limit z) (list_all named_pin ss) all).0
+size_keeps (Pinned p ∷ ss) all = size_keeps ss (and_parts (can_name p.name) (list_all named_pin ss) all).1
+size_keeps (OtherInMacro ∷ ss) all = size_keeps ss all
 
-makes_macro_body : (inside : List ℕ) → Makes PinsNamed (macro_body inside)
+abbrev GoodBody : MacroBody → Type 0
+GoodBody b = (list_all (λ p. can_name p.name) b.pins ≡ true) × (keeps_limit (unwrap_or b.size no_size) ≡ true)
+
+makes_macro_body : (inside : List ℕ) → Makes GoodBody (macro_body inside)
 makes_macro_body inside =
     makes_then (makes_many named_pin inside (macro_statement inside) (λ before. makes_macro_statement inside (is_among (pin_names (pins_of before)))))
-    (λ ss all. makes_give PinsNamed (macro_said ss) (pins_named ss all))
+    (λ ss all. makes_give GoodBody (macro_said ss) (pins_named ss all, size_keeps ss all))
 
 -- ---- at the library level
 
--- a master's name and its pins' names are words
+abbrev is_good : Master → Bool
+is_good m = are_words m && keeps_limit (size_of m)
+
+-- a master's name and its pins' names are words, and its size keeps the limit
 abbrev named_master : LibraryStatement → Bool
-named_master (Defined m) = are_words m
+named_master (Defined m) = is_good m
 named_master OtherInLibrary = true
 
 makes_defined : (heading : List ℕ) (known : List ℕ → Bool) (full : Bool) → Makes (Passes named_master) (defined heading known full)
 unfolding defined
 makes_defined heading known full =
-    makes_then (makes_any heading) (λ h t. makes_then (makes_new heading known full) (λ n can. makes_then (makes_macro_body n.bytes) (λ b pins.
-    makes_give (Passes named_master) (Some (Defined (master_of n.bytes b))) (both (can_name n.bytes) (list_all (λ p. can_name p.name) b.pins) can pins))))
+    makes_then (makes_any heading) (λ h t. makes_then (makes_new heading known full) (λ n can. makes_then (makes_macro_body n.bytes) (λ b good.
+    makes_give (Passes named_master) (Some (Defined (master_of n.bytes b)))
+    (both (can_name n.bytes && list_all (λ p. can_name p.name) b.pins) (keeps_limit (unwrap_or b.size no_size)) (both (can_name n.bytes) (list_all (λ p. can_name p.name) b.pins) can good.0) good.1))))
 
 makes_named_block : (heading : List ℕ) → Makes (Passes named_master) (named_block heading)
 unfolding named_block
@@ -386,21 +429,35 @@ statement_makes known full (finished p) x r g e = (subst (λ k. Passes named_mas
 statement_makes known full (open_quote p) x r g e = absurd (not_Ok e)
 statement_makes known full (word_then w u) x r g e = (makes_under w.bytes known full).makes (word_then w u) x r g e
 
-masters_named : (ss : List LibraryStatement) → list_all named_master ss ≡ true → list_all are_words (masters_of ss) ≡ true
+masters_named : (ss : List LibraryStatement) → list_all named_master ss ≡ true → list_all is_good (masters_of ss) ≡ true
 masters_named [] all = refl
-masters_named (Defined m ∷ ss) all = let parts = and_parts (are_words m) (list_all named_master ss) all in both (are_words m) (list_all are_words (masters_of ss)) parts.0 (masters_named ss parts.1)
+masters_named (Defined m ∷ ss) all = let parts = and_parts (is_good m) (list_all named_master ss) all in both (is_good m) (list_all is_good (masters_of ss)) parts.0 (masters_named ss parts.1)
 masters_named (OtherInLibrary ∷ ss) all = masters_named ss all
 
-makes_masters : (full : ℕ → Bool) → Makes (AllPassing are_words) (masters full)
+makes_masters : (full : ℕ → Bool) → Makes (AllPassing is_good) (masters full)
 makes_masters full =
     makes_then (makes_many named_master [] (library_statement full) (λ before. record { makes = statement_makes (is_among (names_of (masters_of before))) (full (length (masters_of before))) }))
-    (λ ss all. makes_give (AllPassing are_words) (masters_of ss) (masters_named ss all))
+    (λ ss all. makes_give (AllPassing is_good) (masters_of ss) (masters_named ss all))
 
-pub read_names : NamesAreWords
-read_names text ms is = go (masters (λ n. false) (walk_of text)) refl is
+read_good : (text : List ℕ) (ms : List Master) → library_of text ≡ Ok ms → list_all is_good ms ≡ true
+read_good text ms is = go (masters (λ n. false) (walk_of text)) refl is
   where
-    go : (r : Result (List Master × Walk) LefFault) → masters (λ n. false) (walk_of text) ≡ r → value_read r ≡ Ok ms → list_all are_words ms ≡ true
+    go : (r : Result (List Master × Walk) LefFault) → masters (λ n. false) (walk_of text) ≡ r → value_read r ≡ Ok ms → list_all is_good ms ≡ true
     go (Err e) at is = absurd (cc)
     go (Ok (read, v)) at is =
         let same : read ≡ ms = cc in
-        subst (λ k. list_all are_words k ≡ true) same ((makes_masters (λ n. false)).makes (walk_of text) read v (words_begin text between 0 tt) at).0
+        subst (λ k. list_all is_good k ≡ true) same ((makes_masters (λ n. false)).makes (walk_of text) read v (words_begin text between 0 tt) at).0
+
+all_parts : (ms : List Master) → list_all is_good ms ≡ true → (list_all are_words ms ≡ true) × KeepSizes ms
+all_parts [] all = (refl, refl)
+all_parts (m ∷ ms) all =
+    let parts = and_parts (is_good m) (list_all is_good ms) all in
+    let one = and_parts (are_words m) (keeps_limit (size_of m)) parts.0 in
+    let rest = all_parts ms parts.1 in
+    (both (are_words m) (list_all are_words ms) one.0 rest.0, both (keeps_limit (size_of m)) (list_all (λ m. keeps_limit (size_of m)) ms) one.1 rest.1)
+
+pub read_names : NamesAreWords
+read_names text ms is = (all_parts ms (read_good text ms is)).0
+
+pub read_sizes : (text : List ℕ) (ms : List Master) → library_of text ≡ Ok ms → KeepSizes ms
+read_sizes text ms is = (all_parts ms (read_good text ms is)).1

@@ -11,7 +11,7 @@ use Rattle.eco_lef.specs.declared.fault.LefFault.{LefFault}
 use Rattle.eco_lef.specs.declared.fault.LefFault.TheVariants.{Text, ArrayBlock, BadStatement}
 use Rattle.eco_lef.specs.declared.master.Master.{Master}
 use Rattle.eco_lef.specs.declared.master.MasterPin.{MasterPin}
-use Rattle.eco_lef.specs.declared.statement.Size.{Size}
+use Rattle.eco_common.specs.declared.geometry.Size.{Size}
 use Rattle.eco_lef.specs.declared.pin_statements.PinBody.{PinBody}
 use Rattle.eco_lef.specs.declared.macro_statements.MacroBody.{MacroBody}
 use Rattle.eco_lef.specs.declared.statement.PinStatement.{PinStatement}

@@ -5,3 +5,4 @@ pub mod Known
 pub mod Collected
 pub mod Limits
 pub mod Names
+pub mod Sizes

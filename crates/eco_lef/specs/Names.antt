@@ -1,11 +1,9 @@
 -- Laws of names in a library.
-use Rattle.std.specs.Prelude.{◌≡◌, ℕ, ◌==◌, ◌&&◌, ◌||◌, not, Bool, true, false, List, [], ◌∷◌, Ok}
+use Rattle.std.specs.Prelude.{◌≡◌, ℕ, ◌&&◌, Bool, true, false, List, [], ◌∷◌, Ok}
 use Rattle.std.specs.List.{list_all}
 use Rattle.eco_text.specs.Tokens.{can_name}
-use Rattle.eco_text.specs.Words.{plain_word}
 use Rattle.eco_lef.specs.declared.master.Master.{Master}
 use Rattle.eco_common.specs.NameBytes.{is_among}
-use Rattle.eco_text.specs.Tokens.{is_name}
 use Rattle.eco_lef.specs.Known.{names_of, pin_names}
 use Rattle.eco_lef.specs.Grammar.{library_of}
 

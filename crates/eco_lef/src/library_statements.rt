@@ -12,16 +12,16 @@ use crate::fault::LefFault;
 use crate::library::Library;
 use crate::master::Master;
 use crate::reader::Reader;
-use crate::statement::{LibraryStatement, Size};
-use eco_common::{MAX_MASTERS, Name};
+use crate::statement::LibraryStatement;
+use eco_common::{MAX_MASTERS, Name, Size};
 use eco_text::Word;
 
 impl<'a> Reader<'a> {
     /// A macro's name, which isn't among those of the library, where there is room for one more.
     fn master_name(&mut self, heading: &[u8], library: &Library) -> Result<Word, LefFault>
-        ensures { Reads 1 token (new_name heading.now (is_among (names_of library.now)) (nat_le MAX_MASTERS (length library.now))) self.old self.new result }
+        ensures { Reads 1 token (new_name heading.now (is_among (names_of library.now)) (nat_le MAX_MASTERS (length library.now))) self.old.words self.new.words result }
     {
-        let known = library.has(self.bytes_ahead());
+        let known = library.has(self.words.bytes_ahead());
         self.unused_name(heading, known, MAX_MASTERS <= library.len())
     }
 
@@ -32,11 +32,11 @@ impl<'a> Reader<'a> {
         heading: &[u8],
         library: &Library,
     ) -> Result<Option<LibraryStatement>, LefFault>
-        ensures { Reads 1 as_is (defined_at heading.now (is_among (names_of library.now)) (nat_le MAX_MASTERS (length library.now))) self.old self.new result }
+        ensures { Reads 1 as_is (defined_at heading.now (is_among (names_of library.now)) (nat_le MAX_MASTERS (length library.now))) self.old.words self.new.words result }
     {
         self.take(heading)?;
         let word = self.master_name(heading, library)?;
-        let name = self.bytes_of(word);
+        let name = self.words.bytes_of(word);
         let body = self.macro_body(name)?;
         let size = body.size.unwrap_or(Size {
             width: 0,
@@ -52,17 +52,18 @@ impl<'a> Reader<'a> {
 
     #[tactic(auto, unfolding(crate::specs::Grammar::named_block))]
     fn named_block(&mut self, heading: &[u8]) -> Result<Option<LibraryStatement>, LefFault>
-        ensures { Reads 1 as_is (named_block heading.now) self.old self.new result }
+        ensures { Reads 1 as_is (named_block heading.now) self.old.words self.new.words result }
     {
         self.take(heading)?;
         let word = self.name(heading)?;
-        self.pass_block(self.bytes_of(word))?;
+        let block = self.words.bytes_of(word);
+        self.pass_block(block)?;
         Ok(Some(LibraryStatement::Other))
     }
 
     #[tactic(auto, unfolding(crate::specs::Grammar::plain_block))]
     fn plain_block(&mut self, heading: &[u8]) -> Result<Option<LibraryStatement>, LefFault>
-        ensures { Reads 1 as_is (plain_block heading.now) self.old self.new result }
+        ensures { Reads 1 as_is (plain_block heading.now) self.old.words self.new.words result }
     {
         self.take(heading)?;
         self.pass_block(heading)?;
@@ -75,7 +76,7 @@ impl<'a> Reader<'a> {
         heading: &[u8],
         keyword: &[u8],
     ) -> Result<Option<LibraryStatement>, LefFault>
-        ensures { Reads 1 as_is (passed_in_library heading.now keyword.now) self.old self.new result }
+        ensures { Reads 1 as_is (passed_in_library heading.now keyword.now) self.old.words self.new.words result }
     {
         self.pass_to(heading, keyword)?;
         Ok(Some(LibraryStatement::Other))
@@ -83,7 +84,7 @@ impl<'a> Reader<'a> {
 
     #[tactic(auto, unfolding(crate::specs::Grammar::library_end))]
     fn library_end(&mut self, heading: &[u8]) -> Result<Option<LibraryStatement>, LefFault>
-        ensures { Reads 1 as_is (library_end heading.now) self.old self.new result }
+        ensures { Reads 1 as_is (library_end heading.now) self.old.words self.new.words result }
     {
         if self.block_ends(heading, b"LIBRARY")? {
             return Ok(None);
@@ -98,24 +99,27 @@ impl<'a> Reader<'a> {
         heading: &[u8],
         library: &Library,
     ) -> Result<Option<LibraryStatement>, LefFault>
-        ensures { Reads 1 as_is (statement_under heading.now (is_among (names_of library.now)) (nat_le MAX_MASTERS (length library.now))) self.old self.new result }
+        ensures { Reads 1 as_is (statement_under heading.now (is_among (names_of library.now)) (nat_le MAX_MASTERS (length library.now))) self.old.words self.new.words result }
     {
-        if self.next_is(b"END") {
+        if self.words.next_is(b"END") {
             return self.library_end(heading);
         }
-        if self.next_is(b"MACRO") {
+        if self.words.next_is(b"MACRO") {
             return self.defined(heading, library);
         }
-        if self.next_is_one_of(&[b"LAYER", b"VIA", b"VIARULE", b"SITE", b"NONDEFAULTRULE"]) {
+        if self.words.next_is_one_of(&[b"LAYER", b"VIA", b"VIARULE", b"SITE", b"NONDEFAULTRULE"]) {
             return self.named_block(heading);
         }
-        if self.next_is_one_of(&[b"UNITS", b"PROPERTYDEFINITIONS", b"SPACING"]) {
+        if self
+            .words
+            .next_is_one_of(&[b"UNITS", b"PROPERTYDEFINITIONS", b"SPACING"])
+        {
             return self.plain_block(heading);
         }
-        if self.next_is(b"BEGINEXT") {
+        if self.words.next_is(b"BEGINEXT") {
             return self.passed_in_library(heading, b"ENDEXT");
         }
-        if self.next_is(b"ARRAY") {
+        if self.words.next_is(b"ARRAY") {
             return Err(self.array_block(heading));
         }
         self.passed_in_library(heading, b";")
@@ -123,11 +127,14 @@ impl<'a> Reader<'a> {
 
     /// One statement, and none at the end of the library or the text.
     fn library_statement(&mut self, library: &Library) -> Result<Option<LibraryStatement>, LefFault>
-        ensures reads { Reads 0 as_is (library_statement_new (is_among (names_of library.now)) (nat_le MAX_MASTERS (length library.now))) self.old self.new result }
-        ensures goes_on { IfOk result (λ o. IsSome o → word_count (left self.new) + 1 ≤ word_count (left self.old)) }
+        ensures reads { Reads 0 as_is (library_statement_new (is_among (names_of library.now)) (nat_le MAX_MASTERS (length library.now))) self.old.words self.new.words result }
+        ensures goes_on { IfOk result (λ o. IsSome o → word_count (left self.new.words) + 1 ≤ word_count (left self.old.words)) }
     {
-        match self.ahead {
-            Ok(Some(word)) => self.statement_under(self.bytes_of(word), library),
+        match self.words.ahead() {
+            Ok(Some(word)) => {
+                let heading = self.words.bytes_of(word);
+                self.statement_under(heading, library)
+            }
             Ok(None) => Ok(None),
             Err(fault) => Err(LefFault::Text(fault)),
         }
@@ -135,7 +142,7 @@ impl<'a> Reader<'a> {
 
     /// The masters of all statements.
     pub fn library(&mut self) -> Result<Library, LefFault>
-        ensures { Reads 0 as_is (masters (nat_le MAX_MASTERS)) self.old self.new result }
+        ensures { Reads 0 as_is (masters (nat_le MAX_MASTERS)) self.old.words self.new.words result }
     {
         let mut library = Library::new(self.alloc);
         'statements: while let Some(statement) = self.library_statement(&library)? {

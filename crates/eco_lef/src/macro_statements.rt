@@ -13,8 +13,8 @@ use crate::fault::LefFault;
 use crate::master::MasterPin;
 use crate::pin_list::PinList;
 use crate::reader::Reader;
-use crate::statement::{MacroStatement, Size};
-use eco_common::{Dir, Name};
+use crate::statement::MacroStatement;
+use eco_common::{Dir, Name, Size};
 use eco_text::Word;
 use std::alloc::{AllocError, Global};
 
@@ -48,7 +48,7 @@ impl MacroBody {
 impl<'a> Reader<'a> {
     #[tactic(auto, unfolding(crate::specs::Grammar::size))]
     fn size(&mut self, inside: &[u8]) -> Result<Option<MacroStatement>, LefFault>
-        ensures { Reads 1 as_is (size inside.now) self.old self.new result }
+        ensures { Reads 1 as_is (size inside.now) self.old.words self.new.words result }
     {
         self.take(inside)?;
         let width = self.microns(inside)?;
@@ -60,20 +60,20 @@ impl<'a> Reader<'a> {
 
     /// A pin's name, which isn't among those of these pins.
     fn pin_name(&mut self, inside: &[u8], pins: &PinList) -> Result<Word, LefFault>
-        ensures { Reads 1 token (new_name inside.now (is_among (pin_names pins.now)) false) self.old self.new result }
+        ensures { Reads 1 token (new_name inside.now (is_among (pin_names pins.now)) false) self.old.words self.new.words result }
     {
-        let known = pins.has(self.bytes_ahead());
+        let known = pins.has(self.words.bytes_ahead());
         self.unused_name(inside, known, false)
     }
 
     /// A pin, whose name isn't among those of these pins.
     #[tactic(auto, unfolding(crate::specs::Grammar::pin))]
     fn pin(&mut self, inside: &[u8], pins: &PinList) -> Result<Option<MacroStatement>, LefFault>
-        ensures { Reads 1 as_is (pin inside.now (is_among (pin_names pins.now))) self.old self.new result }
+        ensures { Reads 1 as_is (pin inside.now (is_among (pin_names pins.now))) self.old.words self.new.words result }
     {
         self.take(inside)?;
         let word = self.pin_name(inside, pins)?;
-        let name = self.bytes_of(word);
+        let name = self.words.bytes_of(word);
         let body = self.pin_body(name)?;
         Ok(Some(MacroStatement::Pinned(MasterPin {
             name: Name::of(self.alloc, name)?,
@@ -88,7 +88,7 @@ impl<'a> Reader<'a> {
         inside: &[u8],
         keyword: &[u8],
     ) -> Result<Option<MacroStatement>, LefFault>
-        ensures { Reads 1 as_is (passed_in_macro inside.now keyword.now) self.old self.new result }
+        ensures { Reads 1 as_is (passed_in_macro inside.now keyword.now) self.old.words self.new.words result }
     {
         self.pass_to(inside, keyword)?;
         Ok(Some(MacroStatement::Other))
@@ -96,7 +96,7 @@ impl<'a> Reader<'a> {
 
     #[tactic(auto, unfolding(crate::specs::Grammar::macro_end))]
     fn macro_end(&mut self, inside: &[u8]) -> Result<Option<MacroStatement>, LefFault>
-        ensures { Reads 1 as_is (macro_end inside.now) self.old self.new result }
+        ensures { Reads 1 as_is (macro_end inside.now) self.old.words self.new.words result }
     {
         if self.block_ends(inside, inside)? {
             return Ok(None);
@@ -111,18 +111,18 @@ impl<'a> Reader<'a> {
         inside: &[u8],
         pins: &PinList,
     ) -> Result<Option<MacroStatement>, LefFault>
-        ensures { Reads 1 as_is (macro_statement_new inside.now (is_among (pin_names pins.now))) self.old self.new result }
+        ensures { Reads 1 as_is (macro_statement_new inside.now (is_among (pin_names pins.now))) self.old.words self.new.words result }
     {
-        if self.next_is(b"END") {
+        if self.words.next_is(b"END") {
             return self.macro_end(inside);
         }
-        if self.next_is(b"SIZE") {
+        if self.words.next_is(b"SIZE") {
             return self.size(inside);
         }
-        if self.next_is(b"PIN") {
+        if self.words.next_is(b"PIN") {
             return self.pin(inside, pins);
         }
-        if self.next_is_one_of(&[b"OBS", b"DENSITY"]) {
+        if self.words.next_is_one_of(&[b"OBS", b"DENSITY"]) {
             return self.passed_in_macro(inside, b"END");
         }
         self.passed_in_macro(inside, b";")
@@ -130,7 +130,7 @@ impl<'a> Reader<'a> {
 
     /// All statements of a macro, with its end.
     pub fn macro_body(&mut self, inside: &[u8]) -> Result<MacroBody, LefFault>
-        ensures { Reads 0 as_is (macro_body inside.now) self.old self.new result }
+        ensures { Reads 0 as_is (macro_body inside.now) self.old.words self.new.words result }
     {
         let mut body = MacroBody {
             size: None,

@@ -40,7 +40,7 @@ impl PinBody {
 impl<'a> Reader<'a> {
     #[tactic(auto, unfolding(crate::specs::Grammar::plain_dir))]
     fn plain_dir(&mut self, inside: &[u8], dir: Dir) -> Result<Dir, LefFault>
-        ensures { Reads 1 as_is (plain_dir inside.now dir) self.old self.new result }
+        ensures { Reads 1 as_is (plain_dir inside.now dir) self.old.words self.new.words result }
     {
         self.take(inside)?;
         Ok(dir)
@@ -49,10 +49,10 @@ impl<'a> Reader<'a> {
     /// `OUTPUT`, with or without `TRISTATE` after it.
     #[tactic(auto, unfolding(crate::specs::Grammar::output))]
     fn output(&mut self, inside: &[u8]) -> Result<Dir, LefFault>
-        ensures { Reads 1 as_is (output inside.now) self.old self.new result }
+        ensures { Reads 1 as_is (output inside.now) self.old.words self.new.words result }
     {
         self.take(inside)?;
-        if self.next_is(b"TRISTATE") {
+        if self.words.next_is(b"TRISTATE") {
             self.take(inside)?;
         }
         Ok(Dir::Output)
@@ -60,15 +60,15 @@ impl<'a> Reader<'a> {
 
     #[tactic(auto, using(crate::proofs::Telling::told))]
     fn dir(&mut self, inside: &[u8]) -> Result<Dir, LefFault>
-        ensures { Reads 1 as_is (dir inside.now) self.old self.new result }
+        ensures { Reads 1 as_is (dir inside.now) self.old.words self.new.words result }
     {
-        if self.next_is(b"OUTPUT") {
+        if self.words.next_is(b"OUTPUT") {
             return self.output(inside);
         }
-        if self.next_is(b"INPUT") {
+        if self.words.next_is(b"INPUT") {
             return self.plain_dir(inside, Dir::Input);
         }
-        if self.next_is_one_of(&[b"INOUT", b"FEEDTHRU"]) {
+        if self.words.next_is_one_of(&[b"INOUT", b"FEEDTHRU"]) {
             return self.plain_dir(inside, Dir::Inout);
         }
         Err(self.bad_statement(inside))
@@ -76,7 +76,7 @@ impl<'a> Reader<'a> {
 
     #[tactic(auto, unfolding(crate::specs::Grammar::direction))]
     fn direction(&mut self, inside: &[u8]) -> Result<Option<PinStatement>, LefFault>
-        ensures { Reads 1 as_is (direction inside.now) self.old self.new result }
+        ensures { Reads 1 as_is (direction inside.now) self.old.words self.new.words result }
     {
         self.take(inside)?;
         let dir = self.dir(inside)?;
@@ -86,7 +86,7 @@ impl<'a> Reader<'a> {
 
     #[tactic(auto, unfolding(crate::specs::Grammar::plain_use))]
     fn plain_use(&mut self, inside: &[u8]) -> Result<bool, LefFault>
-        ensures { Reads 1 as_is (plain_use inside.now) self.old self.new result }
+        ensures { Reads 1 as_is (plain_use inside.now) self.old.words self.new.words result }
     {
         self.pass_to(inside, b";")?;
         Ok(false)
@@ -95,10 +95,10 @@ impl<'a> Reader<'a> {
     /// What follows from POWER or GROUND on. It is a supply only where nothing else stands there.
     #[tactic(auto, unfolding(crate::specs::Grammar::supply_use))]
     fn supply_use(&mut self, inside: &[u8]) -> Result<bool, LefFault>
-        ensures { Reads 1 as_is (supply_use inside.now) self.old self.new result }
+        ensures { Reads 1 as_is (supply_use inside.now) self.old.words self.new.words result }
     {
         self.take(inside)?;
-        if self.next_is(b";") {
+        if self.words.next_is(b";") {
             self.take(inside)?;
             return Ok(true);
         }
@@ -106,9 +106,9 @@ impl<'a> Reader<'a> {
     }
 
     fn use_said(&mut self, inside: &[u8]) -> Result<bool, LefFault>
-        ensures { Reads 1 as_is (use_said inside.now) self.old self.new result }
+        ensures { Reads 1 as_is (use_said inside.now) self.old.words self.new.words result }
     {
-        if self.next_is_one_of(&[b"POWER", b"GROUND"]) {
+        if self.words.next_is_one_of(&[b"POWER", b"GROUND"]) {
             return self.supply_use(inside);
         }
         self.plain_use(inside)
@@ -116,7 +116,7 @@ impl<'a> Reader<'a> {
 
     #[tactic(auto, unfolding(crate::specs::Grammar::pin_use))]
     fn pin_use(&mut self, inside: &[u8]) -> Result<Option<PinStatement>, LefFault>
-        ensures { Reads 1 as_is (pin_use inside.now) self.old self.new result }
+        ensures { Reads 1 as_is (pin_use inside.now) self.old.words self.new.words result }
     {
         self.take(inside)?;
         let supply = self.use_said(inside)?;
@@ -129,7 +129,7 @@ impl<'a> Reader<'a> {
         inside: &[u8],
         keyword: &[u8],
     ) -> Result<Option<PinStatement>, LefFault>
-        ensures { Reads 1 as_is (passed_in_pin inside.now keyword.now) self.old self.new result }
+        ensures { Reads 1 as_is (passed_in_pin inside.now keyword.now) self.old.words self.new.words result }
     {
         self.pass_to(inside, keyword)?;
         Ok(Some(PinStatement::Other))
@@ -137,7 +137,7 @@ impl<'a> Reader<'a> {
 
     #[tactic(auto, unfolding(crate::specs::Grammar::pin_end))]
     fn pin_end(&mut self, inside: &[u8]) -> Result<Option<PinStatement>, LefFault>
-        ensures { Reads 1 as_is (pin_end inside.now) self.old self.new result }
+        ensures { Reads 1 as_is (pin_end inside.now) self.old.words self.new.words result }
     {
         if self.block_ends(inside, inside)? {
             return Ok(None);
@@ -148,18 +148,18 @@ impl<'a> Reader<'a> {
     /// One statement of a pin, and none at its end.
     #[tactic(auto, unfolding(crate::specs::Grammar::pin_statement))]
     fn pin_statement(&mut self, inside: &[u8]) -> Result<Option<PinStatement>, LefFault>
-        ensures { Reads 1 as_is (pin_statement inside.now) self.old self.new result }
+        ensures { Reads 1 as_is (pin_statement inside.now) self.old.words self.new.words result }
     {
-        if self.next_is(b"END") {
+        if self.words.next_is(b"END") {
             return self.pin_end(inside);
         }
-        if self.next_is(b"DIRECTION") {
+        if self.words.next_is(b"DIRECTION") {
             return self.direction(inside);
         }
-        if self.next_is(b"USE") {
+        if self.words.next_is(b"USE") {
             return self.pin_use(inside);
         }
-        if self.next_is(b"PORT") {
+        if self.words.next_is(b"PORT") {
             return self.passed_in_pin(inside, b"END");
         }
         self.passed_in_pin(inside, b";")
@@ -167,7 +167,7 @@ impl<'a> Reader<'a> {
 
     /// All statements of a pin, with its end.
     pub fn pin_body(&mut self, inside: &[u8]) -> Result<PinBody, LefFault>
-        ensures { Reads 0 as_is (pin_body inside.now) self.old self.new result }
+        ensures { Reads 0 as_is (pin_body inside.now) self.old.words self.new.words result }
     {
         let mut body = PinBody {
             dir: None,

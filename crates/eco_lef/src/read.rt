@@ -5,6 +5,7 @@ ghost use Rattle.eco_lef.specs.Grammar.{library_within};
 ghost use Rattle.eco_lef.specs.Limits.{IsLibraryOf};
 ghost use Rattle.eco_lef.specs.Names.{HaveOwnNames};
 ghost use Rattle.eco_lef.specs.Reading.{Refuses};
+ghost use Rattle.eco_lef.specs.Sizes.{KeepSizes};
 
 use crate::fault::LefFault;
 use crate::library::Library;
@@ -20,6 +21,7 @@ pub fn read_lef(alloc: Global, text: &[u8]) -> Result<Library, LefFault>
     requires { length text.now ≤ MAX_LEF_BYTES }
     ensures library { IfOk result (IsLibraryOf MAX_MASTERS text.now) }
     ensures names { IfOk result HaveOwnNames }
+    ensures sizes { IfOk result KeepSizes }
     ensures masters { IfOk result (λ masters. library_within MAX_MASTERS text.now ≡ Ok masters) }
     ensures fault { IfErr result (λ e. Refuses (library_within MAX_MASTERS text.now) e) }
 {

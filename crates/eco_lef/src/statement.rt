@@ -1,7 +1,7 @@
 //! What the statements of a library say.
 
 use crate::master::{Master, MasterPin};
-use eco_common::Dir;
+use eco_common::{Dir, Size};
 
 /// A statement in a pin. `Used` says whether the use is POWER or GROUND.
 #[derive(Drop)]
@@ -9,13 +9,6 @@ pub enum PinStatement {
     Directed(Dir),
     Used(bool),
     Other,
-}
-
-/// `SIZE`, in millionths of a micron.
-#[derive(Clone, Copy, Debug, Drop, PartialEq, Eq)]
-pub struct Size {
-    pub width: u64,
-    pub height: u64,
 }
 
 /// A statement in a macro.

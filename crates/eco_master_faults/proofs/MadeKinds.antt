@@ -1,6 +1,7 @@
 -- The kinds of masters.
 use Rattle.std.proofs.Common.{◌≡◌, ℕ, ◌+◌, ◌<◌, ◌^◌, Bool, true, false, not, ◌||◌, List, [], ◌∷◌, ◌++◌, map, length, take, get_or, slice_get, Option, Some, None, option_map, option_and_then, refl, sym, ap, subst, ◌∙◌, inl, inr, true≢false, cond, arith}
-use Rattle.std.specs.List.{IsDistinct, AllByRecursion, filter, All}
+use Rattle.std.specs.List.{IsDistinct, AllByRecursion, filter, All, list_all}
+use Rattle.std.proofs.lemmas.Bool.{and_parts}
 use Rattle.std.specs.Ordering.{eq_by_cmp}
 use Rattle.std.specs.Str.{bytes_eq}
 use Rattle.std.proofs.lemmas.List.{map-append, append-nil, take_more}
@@ -15,13 +16,16 @@ use Rattle.eco_lef.specs.declared.master.MasterPin.{MasterPin}
 use Rattle.eco_common.specs.NameBytes.{is_among}
 use Rattle.eco_lef.specs.Known.{names_of, pin_names, first_place}
 use Rattle.eco_lef.specs.Names.{AreDistinct, HaveDistinctPins}
+use Rattle.eco_lef.specs.Sizes.{size_of, KeepSizes}
+use Rattle.eco_lef.specs.Collected.{find_master}
+use Rattle.eco_common.specs.Sizes.{keeps_limit}
 use Rattle.eco_lef.proofs.Naming.{found}
 use Rattle.eco_net.specs.Among.{Has}
 use Rattle.eco_net.specs.Netlist.{Name, name_cmp, Boxed}
 use Rattle.eco_net.specs.declared.kind.BoxPin.{BoxPin}
 use Rattle.eco_net.specs.declared.kind.Kind.{Kind as Given}
 use Rattle.eco_net.specs.declared.kind.Kind.TheVariants.{Boxed as GivenBox}
-use Rattle.eco_net.specs.Listing.{kind_of, HasOwnPins}
+use Rattle.eco_net.specs.Listing.{given_kind, HasOwnPins}
 use Rattle.eco_net.proofs.Basics.{cmp_apart}
 use Rattle.eco_master_faults.specs.Tables.{kind_in, kinds_of}
 use Rattle.eco_master_faults.specs.Making.{box_pin, boxed, IsKindOf, AreKinds}
@@ -95,7 +99,7 @@ pub kinds_more : (fs : List MasterTables) (ms : List Master) (i : ℕ) (m : Mast
     AreKinds fs (take i ms) kinds → IsKindOf (find_function m.name fs) m kind → AreKinds fs (take (i + 1) ms) (kinds ++ kind ∷ [])
 kinds_more fs ms i m kinds kind l e are is =
     record {
-      each = map-append kind_of kinds (kind ∷ []) ∙ (λ j. are.each j ++ is.0 j ∷ []) ∙ sym (map-append (kind_in fs) (take i ms) (m ∷ []))
+      each = map-append given_kind kinds (kind ∷ []) ∙ (λ j. are.each j ++ is.0 j ∷ []) ∙ sym (map-append (kind_in fs) (take i ms) (m ∷ []))
           ∙ ap (map (kind_in fs)) (sym (take_more ms i m l ∙ ap (λ x. take i ms ++ x ∷ []) (sym e)));
       own = All-push HasOwnPins kinds kind are.own is.1;
     }
@@ -107,13 +111,23 @@ mapped_twice f g h s None = refl
 mapped_twice f g h s (Some a) = s a
 
 pub kind_at : (fs : List MasterTables) (ms : List Master) (kinds : List Given) (q : Name) (place : Option ℕ) → AreKinds fs ms kinds → place ≡ first_place (names_of ms) q →
-    option_map kind_of (option_and_then (λ i. slice_get kinds i) place) ≡ kinds_of ms fs q
+    option_map given_kind (option_and_then (λ i. slice_get kinds i) place) ≡ (kinds_of ms fs).kind q
 kind_at fs ms kinds q place are e =
-    mapped_twice kind_of (λ i. slice_get kinds i) (λ i. option_map (kind_in fs) (slice_get ms i))
-    (λ i. sym (slice_get-map kind_of kinds i) ∙ ap (λ xs. slice_get xs i) are.each ∙ slice_get-map (kind_in fs) ms i) place
+    mapped_twice given_kind (λ i. slice_get kinds i) (λ i. option_map (kind_in fs) (slice_get ms i))
+    (λ i. sym (slice_get-map given_kind kinds i) ∙ ap (λ xs. slice_get xs i) are.each ∙ slice_get-map (kind_in fs) ms i) place
     ∙ sym (mapped_twice (kind_in fs) (λ i. slice_get ms i) (λ i. option_map (kind_in fs) (slice_get ms i)) (λ i. refl) place)
     ∙ ap (λ o. option_map (kind_in fs) (option_and_then (λ i. slice_get ms i) o)) e
     ∙ ap (option_map (kind_in fs)) (found ms q)
 
 pub own_at : (kinds : List Given) (i : ℕ) (kind : Given) → All HasOwnPins kinds → slice_get kinds i ≡ Some kind → HasOwnPins kind
 own_at kinds i kind own e = subst HasOwnPins (get_or_from_slice_get kinds i kind kind e) (own i kind (slice_get_within kinds i kind e))
+
+-- ---- the size at a name
+
+pub found_keeps : (q : Name) (ms : List Master) → KeepSizes ms → (m : Master) → find_master q ms ≡ Some m → keeps_limit (size_of m) ≡ true
+found_keeps q [] kept m e = absurd (cc)
+found_keeps q (k ∷ ks) kept m e = let parts = and_parts (keeps_limit (size_of k)) (list_all (λ x. keeps_limit (size_of x)) ks) kept in go (bytes_eq k.name q) parts.0 (found_keeps q ks parts.1 m) e
+  where
+    go : (b : Bool) → keeps_limit (size_of k) ≡ true → (find_master q ks ≡ Some m → keeps_limit (size_of m) ≡ true) → cond b (Some k) (find_master q ks) ≡ Some m → keeps_limit (size_of m) ≡ true
+    go true here rest e = let same : k ≡ m = cc in subst (λ (x : Master). keeps_limit (size_of x) ≡ true) same here
+    go false here rest e = rest e

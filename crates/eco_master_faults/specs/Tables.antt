@@ -4,11 +4,13 @@ use Rattle.std.specs.List.{filter, list_any}
 use Rattle.std.specs.Option.{option_map}
 use Rattle.std.specs.Str.{bytes_eq}
 use Rattle.eco_common.specs.declared.geometry.Dir.{Dir}
+use Rattle.eco_common.specs.declared.geometry.Size.{Size}
 use Rattle.eco_func.specs.Masters.{MasterTables}
 use Rattle.eco_func.specs.FunctionsFile.{find_master as find_function}
 use Rattle.eco_lef.specs.declared.master.Master.{Master}
 use Rattle.eco_lef.specs.declared.master.MasterPin.{MasterPin}
 use Rattle.eco_lef.specs.Collected.{find_master}
+use Rattle.eco_lef.specs.Sizes.{size_of}
 use Rattle.eco_net.specs.Netlist.{Name, Kind, Gate, Boxed}
 use Rattle.eco_net.specs.Listing.{bits_of}
 use Rattle.eco_elaborate.specs.Netlists.{Kinds, Powers}
@@ -33,9 +35,17 @@ kind_by None m = Boxed (library_pins m)
 abbrev pub kind_in : List MasterTables → Master → Kind
 kind_in functions m = kind_by (find_function m.name functions) m
 
+-- a master's size, and 0 by 0 where there is none
+abbrev pub macro_size : Option Master → Size
+macro_size None = record { width = 0; height = 0 }
+macro_size (Some m) = size_of m
+
 -- what the names of a library's masters stand for
 abbrev pub kinds_of : List Master → List MasterTables → Kinds
-kinds_of library functions name = option_map (kind_in functions) (find_master name library)
+kinds_of library functions = record {
+  kind = λ name. option_map (kind_in functions) (find_master name library);
+  size = λ name. macro_size (find_master name library);
+}
 
 abbrev pub has_supply : Option Master → Name → Bool
 has_supply None pin = false

@@ -6,9 +6,10 @@ ghost use Rattle.std.specs.Str.{bytes_eq};
 ghost use Rattle.eco_func.specs.FunctionsFile.{find_master as find_function};
 ghost use Rattle.eco_lef.specs.Known.{pin_names};
 ghost use Rattle.eco_lef.specs.Names.{AreDistinct, HaveDistinctPins};
+ghost use Rattle.eco_lef.specs.Sizes.{KeepSizes};
 ghost use Rattle.eco_master_faults.specs.Making.{boxed, IsKindOf, AreKinds};
 
-use eco_common::Memory;
+use eco_common::{Memory, Size};
 use eco_elaborate::Macros;
 use eco_func::Functions;
 use eco_lef::{Library, Master, MasterPin};
@@ -26,6 +27,7 @@ pub struct MasterTable<'a> {
 }
 
 impl<'a> Model for MasterTable<'a> {
+    ghost use Rattle.eco_lef.specs.Sizes.{KeepSizes};
     ghost use Rattle.eco_master_faults.specs.Tables.{Masters};
     ghost use Rattle.eco_master_faults.specs.Making.{AreKinds};
 
@@ -33,7 +35,7 @@ impl<'a> Model for MasterTable<'a> {
 
     ghost view = { λ t. record { library = t.library.now; functions = t.functions.now } };
 
-    ghost invariant = { λ t. AreKinds t.functions.now t.library.now t.kinds };
+    ghost invariant = { λ t. AreKinds t.functions.now t.library.now t.kinds × KeepSizes t.library.now };
 }
 
 /// Adds a pin to those of a box, unless it is a supply pin.
@@ -104,13 +106,14 @@ fn kinds_of_masters(
 impl<'a> MasterTable<'a> {
     /// What each master of a library is for a netlist: a gate with its tables where the functions file names it, and else a
     /// box with its pins that aren't supply, in the library's order. The pins of each master have names of their own, as
-    /// reading a library ensures.
+    /// reading a library ensures, and no master is too large.
     pub fn of(
         alloc: Global,
         library: &'a Library,
         functions: &'a Functions,
     ) -> Result<MasterTable<'a>, Memory>
-        requires { HaveDistinctPins library.now }
+        requires pins { HaveDistinctPins library.now }
+        requires sizes { KeepSizes library.now }
         ensures { IfOk result (λ table. table ≡ record { library = library.now; functions = functions.now }) }
     {
         let kinds = kinds_of_masters(alloc, library.masters(), functions)?;
@@ -149,6 +152,19 @@ impl<'a> Macros for MasterTable<'a> {
         match self.kinds.get(place) {
             Some(kind) => Ok(Some(kind.copy()?)),
             None => Ok(None),
+        }
+    }
+
+    fn size(&self, name: &[u8]) -> Size {
+        match self.library.find(name) {
+            Some(master) => Size {
+                width: master.width,
+                height: master.height,
+            },
+            None => Size {
+                width: 0,
+                height: 0,
+            },
         }
     }
 

@@ -4,7 +4,7 @@ use Rattle.eco_bench.specs.Region.{Area, IsCarved, IsStanding, IsWithin, overwri
 use Rattle.eco_bench.proofs.Apart.{carved-written}
 use Rattle.eco_bench.proofs.Writing.{length-overwritten, words_of-written, written-only}
 use Rattle.eco_match.specs.declared.pairs.Rows.{Rows}
-use Rattle.eco_match.specs.Rows.{AreRows, AreParts, rows_words, work_len, head_of, columns_of, starts_of, ends_of, spares_of, costs_of, rows_cost, parts_cost}
+use Rattle.eco_match.specs.Rows.{AreRows, AreParts, rows_words, work_len, row_bounds, columns_of, starts_of, ends_of, row_spares, costs_of, rows_cost, parts_cost}
 use Rattle.eco_match.specs.Table.{find_cost}
 use Rattle.eco_match.proofs.Order.{split}
 
@@ -30,28 +30,28 @@ pub record Empty (r : Rows) (words : List ℕ) : Type 0 where
   pub size : 2 * (r.gates + 1) + work_len r + 2 * r.pairs ≤ length words
   pub zeros : (k : ℕ) → k < 2 * (r.gates + 1) → slice_index words k ≡ 0
 
-head-length : (r : Rows) (words : List ℕ) → Empty r words → length (head_of r words) ≡ 2 * (r.gates + 1)
+head-length : (r : Rows) (words : List ℕ) → Empty r words → length (row_bounds r words) ≡ 2 * (r.gates + 1)
 head-length r words w = length-take-le (2 * (r.gates + 1)) words (omega (arith, w.size))
 
-ends-zero : (r : Rows) (words : List ℕ) → Empty r words → (g : ℕ) → slice_index (ends_of r (head_of r words)) g ≡ 0
+ends-zero : (r : Rows) (words : List ℕ) → Empty r words → (g : ℕ) → slice_index (ends_of r (row_bounds r words)) g ≡ 0
 ends-zero r words w g =
     elim (split (r.gates + 1 - g)) [
-      | inl past ↦ get_or_past (ends_of r (head_of r words)) g 0 (let a = length-drop (r.gates + 1) (head_of r words) in let b = head-length r words w in omega (arith, a, b, past))
-      | inr inside ↦ get_or-drop (r.gates + 1) (head_of r words) g 0 ∙ get_or-take (2 * (r.gates + 1)) words (r.gates + 1 + g) 0 (omega (arith, inside)) ∙ w.zeros (r.gates + 1 + g) (omega (arith, inside))
+      | inl past ↦ get_or_past (ends_of r (row_bounds r words)) g 0 (let a = length-drop (r.gates + 1) (row_bounds r words) in let b = head-length r words w in omega (arith, a, b, past))
+      | inr inside ↦ get_or-drop (r.gates + 1) (row_bounds r words) g 0 ∙ get_or-take (2 * (r.gates + 1)) words (r.gates + 1 + g) 0 (omega (arith, inside)) ∙ w.zeros (r.gates + 1 + g) (omega (arith, inside))
     ]
 
-spares-none : (r : Rows) (words : List ℕ) → Empty r words → (j : ℕ) → j < length (spares_of r (columns_of r words)) → ⊥
+spares-none : (r : Rows) (words : List ℕ) → Empty r words → (j : ℕ) → j < length (row_spares r (columns_of r words)) → ⊥
 spares-none r words w j less =
-    let e : length (spares_of r (columns_of r words)) ≡ 0 = length-take-le r.filled (columns_of r words) (omega (arith, w.filled)) ∙ w.filled in
+    let e : length (row_spares r (columns_of r words)) ≡ 0 = length-take-le r.filled (columns_of r words) (omega (arith, w.filled)) ∙ w.filled in
     omega (arith, e, less)
 
-pub parts-empty : (r : Rows) (words : List ℕ) → Empty r words → AreParts r (head_of r words) (columns_of r words)
+pub parts-empty : (r : Rows) (words : List ℕ) → Empty r words → AreParts r (row_bounds r words) (columns_of r words)
 parts-empty r words w =
     let head = head-length r words w in
     let a = length-drop (work_len r) (drop (2 * (r.gates + 1)) words) in
     let b = length-drop (2 * (r.gates + 1)) words in
-    let c = length-drop (r.gates + 1) (head_of r words) in
-    let d = length-take-le (r.gates + 1) (head_of r words) (omega (arith, head)) in
+    let c = length-drop (r.gates + 1) (row_bounds r words) in
+    let d = length-take-le (r.gates + 1) (row_bounds r words) (omega (arith, head)) in
     let e = length-take-le r.filled (columns_of r words) (omega (arith, w.filled)) in
     let f = length-take-le r.filled (drop r.pairs (columns_of r words)) (omega (arith, w.filled)) in
     record {
@@ -71,13 +71,13 @@ parts-empty r words w =
       last = λ g less others. inl (ends-zero r words w g);
     }
 
-cost-none : (r : Rows) (words : List ℕ) → Empty r words → (g s : ℕ) → parts_cost r (head_of r words) (columns_of r words) g s ≡ None
+cost-none : (r : Rows) (words : List ℕ) → Empty r words → (g s : ℕ) → parts_cost r (row_bounds r words) (columns_of r words) g s ≡ None
 cost-none r words w g s =
-    let head = head_of r words in
+    let head = row_bounds r words in
     let columns = columns_of r words in
     let z = ends-zero r words w (g + 1) in
     let n : slice_index (ends_of r head) (g + 1) - slice_index (starts_of r head) (g + 1) ≡ 0 = omega (arith, z) in
-    ap (λ (k : ℕ). find_cost (spares_of r columns) (costs_of r columns) s (slice_index (starts_of r head) (g + 1)) k) n
+    ap (λ (k : ℕ). find_cost (row_spares r columns) (costs_of r columns) s (slice_index (starts_of r head) (g + 1)) k) n
 
 pub rows-begun : (area : Area) (r : Rows) (part : List ℕ) → r.spares < 2 ^ 32 → Over area r part → Empty r part → IsStanding area r.span → IsCarved area → AreRows (with_words area r.span.start part) r
 rows-begun area r part few over empty stands carved =
@@ -87,9 +87,9 @@ rows-begun area r part few over empty stands carved =
       carved = carved-written area r.span.start part (length-written area r part over) carved;
       few = few;
       size = omega (arith, empty.size, over.size);
-      parts = subst (λ (words : List ℕ). AreParts r (head_of r words) (columns_of r words)) (sym e) (parts-empty r part empty);
+      parts = subst (λ (words : List ℕ). AreParts r (row_bounds r words) (columns_of r words)) (sym e) (parts-empty r part empty);
     }
 
 pub cost-begun : (area : Area) (r : Rows) (part : List ℕ) → Over area r part → Empty r part → (g s : ℕ) → rows_cost (with_words area r.span.start part) r g s ≡ None
 cost-begun area r part over empty g s =
-    subst (λ (words : List ℕ). parts_cost r (head_of r words) (columns_of r words) g s ≡ None) (sym (rows-written area r part over)) (cost-none r part empty g s)
+    subst (λ (words : List ℕ). parts_cost r (row_bounds r words) (columns_of r words) g s ≡ None) (sym (rows-written area r part over)) (cost-none r part empty g s)

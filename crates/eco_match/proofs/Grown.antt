@@ -3,7 +3,7 @@ use Rattle.std.proofs.Math.ListN.{length-set}
 use Rattle.std.proofs.lemmas.List.{length-take-le, get_or-take, get_or-set_same, get_or-set_other}
 use Rattle.eco_bench.specs.Region.{Area, with_words, ChangesOnly}
 use Rattle.eco_match.specs.declared.pairs.Rows.{Rows}
-use Rattle.eco_match.specs.Rows.{AreRows, AreParts, rows_words, work_len, head_of, columns_of, starts_of, ends_of, spares_of, costs_of, rows_cost, parts_cost, PairWritten, ComesNext, wider, with_pair}
+use Rattle.eco_match.specs.Rows.{AreRows, AreParts, rows_words, work_len, row_bounds, columns_of, starts_of, ends_of, row_spares, costs_of, rows_cost, parts_cost, PairWritten, ComesNext, wider, with_pair}
 use Rattle.eco_match.proofs.Find.{row-pair}
 use Rattle.eco_bench.proofs.Apart.{within-of, carved-written}
 use Rattle.eco_bench.proofs.Writing.{take-front, drop-front}
@@ -27,8 +27,8 @@ some-of : (o : Option ℕ) (c : ℕ) → o ≡ Some c → IsSome o
 some-of o c e = rw e refl
 
 -- a pair that stands is a candidate
-stands-at : (r : Rows) (gate spare cost : ℕ) (head columns head' columns' : List ℕ) → Step r gate spare cost head columns head' columns' → (g j : ℕ) → (slice_index (starts_of r head) (g + 1) ≤ j) × (j < slice_index (ends_of r head) (g + 1)) → IsSome (parts_cost r head columns g (slice_index (spares_of r columns) j))
-stands-at r gate spare cost head columns head' columns' w g j row = some-of (parts_cost r head columns g (slice_index (spares_of r columns) j)) (slice_index (costs_of r columns) j) (row-pair (starts_of r head) (ends_of r head) (spares_of r columns) (costs_of r columns) g j w.parts.rising row)
+stands-at : (r : Rows) (gate spare cost : ℕ) (head columns head' columns' : List ℕ) → Step r gate spare cost head columns head' columns' → (g j : ℕ) → (slice_index (starts_of r head) (g + 1) ≤ j) × (j < slice_index (ends_of r head) (g + 1)) → IsSome (parts_cost r head columns g (slice_index (row_spares r columns) j))
+stands-at r gate spare cost head columns head' columns' w g j row = some-of (parts_cost r head columns g (slice_index (row_spares r columns) j)) (slice_index (costs_of r columns) j) (row-pair (starts_of r head) (ends_of r head) (row_spares r columns) (costs_of r columns) g j w.parts.rising row)
 
 ends-len : (r : Rows) (gate spare cost : ℕ) (head columns head' columns' : List ℕ) → Step r gate spare cost head columns head' columns' → length (ends_of r head) ≡ r.gates + 1
 ends-len r gate spare cost head columns head' columns' w = (let a = length-drop (r.gates + 1) head in omega (arith, a, w.parts.head_len))
@@ -47,15 +47,15 @@ later-none r gate spare cost head columns head' columns' w h more less =
           let b = ap (λ (k : ℕ). slice_index (ends_of r head) k) e in
           let j = slice_index (starts_of r head) (g + 1) in
           let some = stands-at r gate spare cost head columns head' columns' w g j (omega arith, omega (arith, a, b, q)) in
-          elim (w.next g (slice_index (spares_of r columns) j) (omega (arith, more, less)) some) [
+          elim (w.next g (slice_index (row_spares r columns) j) (omega (arith, more, less)) some) [
             | inl early ↦ omega (arith, early, more)
             | inr here ↦ omega (arith, here.0, more)
           ])
     ]
 
-rises-here : (r : Rows) (gate spare cost : ℕ) (head columns head' columns' : List ℕ) → Step r gate spare cost head columns head' columns' → (j : ℕ) → slice_index (starts_of r head) (gate + 1) ≤ j → j < slice_index (ends_of r head) (gate + 1) → slice_index (spares_of r columns) j < spare
+rises-here : (r : Rows) (gate spare cost : ℕ) (head columns head' columns' : List ℕ) → Step r gate spare cost head columns head' columns' → (j : ℕ) → slice_index (starts_of r head) (gate + 1) ≤ j → j < slice_index (ends_of r head) (gate + 1) → slice_index (row_spares r columns) j < spare
 rises-here r gate spare cost head columns head' columns' w j low high =
-    elim (w.next gate (slice_index (spares_of r columns) j) w.gate_in (stands-at r gate spare cost head columns head' columns' w gate j (low, high))) [
+    elim (w.next gate (slice_index (row_spares r columns) j) w.gate_in (stands-at r gate spare cost head columns head' columns' w gate j (low, high))) [
       | inl early ↦ absurd (omega (arith, early))
       | inr here ↦ here.1
     ]
@@ -66,7 +66,7 @@ start-first r gate spare cost head columns head' columns' w z = w.written.starts
 start-more : (r : Rows) (gate spare cost : ℕ) (head columns head' columns' : List ℕ) → Step r gate spare cost head columns head' columns' → 0 < slice_index (ends_of r head) (gate + 1) → starts_of r head' ≡ starts_of r head
 start-more r gate spare cost head columns head' columns' w p = w.written.starts ∙ ap (λ (b : Bool). if b then slice_set (starts_of r head) (gate + 1) r.filled else starts_of r head) (equal-false (slice_index (ends_of r head) (gate + 1)) 0 (omega (arith, p)))
 
-spare-there : (r : Rows) (gate spare cost : ℕ) (head columns head' columns' : List ℕ) → Step r gate spare cost head columns head' columns' → (j : ℕ) → j ≤ r.filled → slice_index (spares_of (wider r) columns') j ≡ slice_index (slice_set (take r.pairs columns) r.filled spare) j
+spare-there : (r : Rows) (gate spare cost : ℕ) (head columns head' columns' : List ℕ) → Step r gate spare cost head columns head' columns' → (j : ℕ) → j ≤ r.filled → slice_index (row_spares (wider r) columns') j ≡ slice_index (slice_set (take r.pairs columns) r.filled spare) j
 spare-there r gate spare cost head columns head' columns' w j less =
     get_or-take (r.filled + 1) columns' j 0 (omega (arith, less)) ∙ sym (get_or-take r.pairs columns' j 0 (omega (arith, less, w.room))) ∙ ap (λ (xs : List ℕ). slice_index xs j) w.written.spares
 
@@ -74,7 +74,7 @@ cost-there : (r : Rows) (gate spare cost : ℕ) (head columns head' columns' : L
 cost-there r gate spare cost head columns head' columns' w j less =
     get_or-take (r.filled + 1) (drop r.pairs columns') j 0 (omega (arith, less)) ∙ ap (λ (xs : List ℕ). slice_index xs j) w.written.costs
 
-added-of : (r : Rows) (gate spare cost : ℕ) (head columns head' columns' : List ℕ) → Step r gate spare cost head columns head' columns' → Added r.gates r.filled r.spares (gate + 1) spare cost (starts_of r head) (ends_of r head) (spares_of r columns) (costs_of r columns) (starts_of r head') (ends_of r head') (spares_of (wider r) columns') (costs_of (wider r) columns')
+added-of : (r : Rows) (gate spare cost : ℕ) (head columns head' columns' : List ℕ) → Step r gate spare cost head columns head' columns' → Added r.gates r.filled r.spares (gate + 1) spare cost (starts_of r head) (ends_of r head) (row_spares r columns) (costs_of r columns) (starts_of r head') (ends_of r head') (row_spares (wider r) columns') (costs_of (wider r) columns')
 added-of r gate spare cost head columns head' columns' w =
     let en-len = ends-len r gate spare cost head columns head' columns' w in
     let st-len = starts-len r gate spare cost head columns head' columns' w in
@@ -113,7 +113,7 @@ added-of r gate spare cost head columns head' columns' w =
 
 pub parts-added : (r : Rows) (gate spare cost : ℕ) (head columns head' columns' : List ℕ) → Step r gate spare cost head columns head' columns' → AreParts (wider r) head' columns'
 parts-added r gate spare cost head columns head' columns' w =
-    let added = grew-added r.gates r.filled r.spares (gate + 1) spare cost (starts_of r head) (ends_of r head) (spares_of r columns) (costs_of r columns) (starts_of r head') (ends_of r head') (spares_of (wider r) columns') (costs_of (wider r) columns') (added-of r gate spare cost head columns head' columns' w) in
+    let added = grew-added r.gates r.filled r.spares (gate + 1) spare cost (starts_of r head) (ends_of r head) (row_spares r columns) (costs_of r columns) (starts_of r head') (ends_of r head') (row_spares (wider r) columns') (costs_of (wider r) columns') (added-of r gate spare cost head columns head' columns' w) in
     record {
       gates = w.parts.gates;
       filled = omega (arith, w.room);
@@ -127,21 +127,21 @@ parts-added r gate spare cost head columns head' columns' w =
 
 pub costs-added : (r : Rows) (gate spare cost : ℕ) (head columns head' columns' : List ℕ) → Step r gate spare cost head columns head' columns' → (g s : ℕ) → g < r.gates → parts_cost (wider r) head' columns' g s ≡ with_pair (parts_cost r head columns) gate spare cost g s
 costs-added r gate spare cost head columns head' columns' w g s less =
-    cost-added r.gates r.filled r.spares (gate + 1) spare cost (starts_of r head) (ends_of r head) (spares_of r columns) (costs_of r columns) (starts_of r head') (ends_of r head') (spares_of (wider r) columns') (costs_of (wider r) columns') (added-of r gate spare cost head columns head' columns' w) gate g s refl less
+    cost-added r.gates r.filled r.spares (gate + 1) spare cost (starts_of r head) (ends_of r head) (row_spares r columns) (costs_of r columns) (starts_of r head') (ends_of r head') (row_spares (wider r) columns') (costs_of (wider r) columns') (added-of r gate spare cost head columns head' columns' w) gate g s refl less
 
 -- the region after a pair more
 pub record Wrote (area : Area) (r : Rows) (gate spare cost : ℕ) (work head' columns' : List ℕ) : Type 0 where
   pub rows : AreRows area r
   pub work_is : length work ≡ work_len r
-  pub step : Step r gate spare cost (head_of r (rows_words area r)) (columns_of r (rows_words area r)) head' columns'
+  pub step : Step r gate spare cost (row_bounds r (rows_words area r)) (columns_of r (rows_words area r)) head' columns'
   pub size : length (head' ++ (work ++ columns')) ≡ r.span.len
 
 over-of : (area : Area) (r : Rows) (gate spare cost : ℕ) (work head' columns' : List ℕ) → Wrote area r gate spare cost work head' columns' → Over area r (head' ++ (work ++ columns'))
 over-of area r gate spare cost work head' columns' w = record { stands = within-of area r.span w.rows.carved w.rows.stands; fits = w.rows.carved.fits; size = w.size }
 
-head-read : (area : Area) (r : Rows) (gate spare cost : ℕ) (work head' columns' : List ℕ) → Wrote area r gate spare cost work head' columns' → head_of r (rows_words (with_words area r.span.start (head' ++ (work ++ columns'))) r) ≡ head'
+head-read : (area : Area) (r : Rows) (gate spare cost : ℕ) (work head' columns' : List ℕ) → Wrote area r gate spare cost work head' columns' → row_bounds r (rows_words (with_words area r.span.start (head' ++ (work ++ columns'))) r) ≡ head'
 head-read area r gate spare cost work head' columns' w =
-    ap (λ (xs : List ℕ). head_of r xs) (rows-written area r (head' ++ (work ++ columns')) (over-of area r gate spare cost work head' columns' w))
+    ap (λ (xs : List ℕ). row_bounds r xs) (rows-written area r (head' ++ (work ++ columns')) (over-of area r gate spare cost work head' columns' w))
     ∙ take-front (2 * (r.gates + 1)) head' (work ++ columns') (sym (w.step.head_len ∙ w.rows.parts.head_len))
 
 columns-read : (area : Area) (r : Rows) (gate spare cost : ℕ) (work head' columns' : List ℕ) → Wrote area r gate spare cost work head' columns' → columns_of r (rows_words (with_words area r.span.start (head' ++ (work ++ columns'))) r) ≡ columns'
@@ -158,14 +158,14 @@ rows-added area r gate spare cost work head' columns' w =
       few = w.rows.few;
       size = w.rows.size;
       parts = rw (head-read area r gate spare cost work head' columns' w, columns-read area r gate spare cost work head' columns' w)
-          (parts-added r gate spare cost (head_of r (rows_words area r)) (columns_of r (rows_words area r)) head' columns' w.step);
+          (parts-added r gate spare cost (row_bounds r (rows_words area r)) (columns_of r (rows_words area r)) head' columns' w.step);
     }
 
 pub rows-cost-added : (area : Area) (r : Rows) (gate spare cost : ℕ) (work head' columns' : List ℕ) → Wrote area r gate spare cost work head' columns' → (g s : ℕ) → g < r.gates → rows_cost (with_words area r.span.start (head' ++ (work ++ columns'))) (wider r) g s ≡ with_pair (rows_cost area r) gate spare cost g s
 rows-cost-added area r gate spare cost work head' columns' w g s less =
     ap (λ (xs : List ℕ). parts_cost (wider r) xs (columns_of r (rows_words (with_words area r.span.start (head' ++ (work ++ columns'))) r)) g s) (head-read area r gate spare cost work head' columns' w)
     ∙ ap (λ (xs : List ℕ). parts_cost (wider r) head' xs g s) (columns-read area r gate spare cost work head' columns' w)
-    ∙ costs-added r gate spare cost (head_of r (rows_words area r)) (columns_of r (rows_words area r)) head' columns' w.step g s less
+    ∙ costs-added r gate spare cost (row_bounds r (rows_words area r)) (columns_of r (rows_words area r)) head' columns' w.step g s less
 
 -- what the code of `add` knows when it is done
 pub record Code (area : Area) (r : Rows) (gate spare cost : ℕ) (head columns work head' columns' : List ℕ) : Type 0 where
@@ -175,7 +175,7 @@ pub record Code (area : Area) (r : Rows) (gate spare cost : ℕ) (head columns w
   pub room : r.filled < r.pairs
   pub small : cost < 2 ^ 59
   pub next : ComesNext r.gates (rows_cost area r) gate spare
-  pub head_is : head ≡ head_of r (rows_words area r)
+  pub head_is : head ≡ row_bounds r (rows_words area r)
   pub columns_is : columns ≡ columns_of r (rows_words area r)
   pub work_is : length work ≡ work_len r
   pub written : PairWritten r (gate + 1) spare cost head columns head' columns'

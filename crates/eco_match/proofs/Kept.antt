@@ -4,14 +4,14 @@ use Rattle.eco_bench.specs.Region.{Area, IsCarved, IsStanding, IsWithin, with_wo
 use Rattle.eco_bench.proofs.Apart.{carved-written}
 use Rattle.eco_bench.proofs.Writing.{take-front, drop-front, length-overwritten, words_of-written, written-only}
 use Rattle.eco_match.specs.declared.pairs.Rows.{Rows}
-use Rattle.eco_match.specs.Rows.{AreRows, rows_words, head_of, columns_of, work_len, rows_cost, parts_cost}
+use Rattle.eco_match.specs.Rows.{AreRows, rows_words, row_bounds, columns_of, work_len, rows_cost, parts_cost}
 
 -- the words of the rows, with others in the place of the work
 pub record Written (area : Area) (r : Rows) (head work columns : List ℕ) : Type 0 where
   pub stands : IsWithin area r.span
   pub fits : area.used ≤ length area.words
   pub size : 2 * (r.gates + 1) + work_len r ≤ r.span.len
-  pub head_is : head ≡ head_of r (rows_words area r)
+  pub head_is : head ≡ row_bounds r (rows_words area r)
   pub columns_is : columns ≡ columns_of r (rows_words area r)
   pub work_is : length work ≡ work_len r
 
@@ -46,9 +46,9 @@ new-rows : (area : Area) (r : Rows) (head work columns : List ℕ) → Written a
 new-rows area r head work columns w = words_of-written area r.span (head ++ (work ++ columns)) w.stands w.fits (part-len area r head work columns w)
 
 head-kept : (area : Area) (r : Rows) (head work columns : List ℕ) → Written area r head work columns →
-    head_of r (rows_words (written area r head work columns) r) ≡ head_of r (rows_words area r)
+    row_bounds r (rows_words (written area r head work columns) r) ≡ row_bounds r (rows_words area r)
 head-kept area r head work columns w =
-    ap (λ (xs : List ℕ). head_of r xs) (new-rows area r head work columns w)
+    ap (λ (xs : List ℕ). row_bounds r xs) (new-rows area r head work columns w)
     ∙ take-front (2 * (r.gates + 1)) head (work ++ columns) (sym (head-len area r head work columns w)) ∙ w.head_is
 
 columns-kept : (area : Area) (r : Rows) (head work columns : List ℕ) → Written area r head work columns →
@@ -60,7 +60,7 @@ columns-kept area r head work columns w =
 
 -- rows stand as before where their parts do
 pub rows-stay : (old new : Area) (r : Rows) → AreRows old r → IsStanding new r.span → IsCarved new →
-    head_of r (rows_words new r) ≡ head_of r (rows_words old r) → columns_of r (rows_words new r) ≡ columns_of r (rows_words old r) → AreRows new r
+    row_bounds r (rows_words new r) ≡ row_bounds r (rows_words old r) → columns_of r (rows_words new r) ≡ columns_of r (rows_words old r) → AreRows new r
 rows-stay old new r rows stands carved head columns = record {
   stands = stands;
   carved = carved;
@@ -70,10 +70,10 @@ rows-stay old new r rows stands carved head columns = record {
 }
 
 -- their costs too
-pub costs-stay : (old new : Area) (r : Rows) → head_of r (rows_words new r) ≡ head_of r (rows_words old r) → columns_of r (rows_words new r) ≡ columns_of r (rows_words old r) →
+pub costs-stay : (old new : Area) (r : Rows) → row_bounds r (rows_words new r) ≡ row_bounds r (rows_words old r) → columns_of r (rows_words new r) ≡ columns_of r (rows_words old r) →
     rows_cost new r ≡ rows_cost old r
 costs-stay old new r head columns =
-    ap (λ (xs : List ℕ). parts_cost r xs (columns_of r (rows_words new r))) head ∙ ap (λ (xs : List ℕ). parts_cost r (head_of r (rows_words old r)) xs) columns
+    ap (λ (xs : List ℕ). parts_cost r xs (columns_of r (rows_words new r))) head ∙ ap (λ (xs : List ℕ). parts_cost r (row_bounds r (rows_words old r)) xs) columns
 
 pub only-work : (area : Area) (r : Rows) (head work columns : List ℕ) → Written area r head work columns → ChangesOnly area (written area r head work columns) r.span
 only-work area r head work columns w = written-only area r.span (head ++ (work ++ columns)) w.stands w.fits (part-len area r head work columns w)
@@ -89,12 +89,12 @@ costs-kept area r head work columns w = costs-stay area (written area r head wor
 -- rows stand, with their costs, where their span holds the same words
 pub rows-hold : (old new : Area) (r : Rows) → AreRows old r → IsStanding new r.span → IsCarved new → words_of new r.span ≡ words_of old r.span → AreRows new r
 rows-hold old new r rows stands carved words =
-    rows-stay old new r rows stands carved (ap (λ (xs : List ℕ). head_of r xs) words) (ap (λ (xs : List ℕ). columns_of r xs) words)
+    rows-stay old new r rows stands carved (ap (λ (xs : List ℕ). row_bounds r xs) words) (ap (λ (xs : List ℕ). columns_of r xs) words)
 
 pub costs-hold : (old new : Area) (r : Rows) → words_of new r.span ≡ words_of old r.span → rows_cost new r ≡ rows_cost old r
-costs-hold old new r words = costs-stay old new r (ap (λ (xs : List ℕ). head_of r xs) words) (ap (λ (xs : List ℕ). columns_of r xs) words)
+costs-hold old new r words = costs-stay old new r (ap (λ (xs : List ℕ). row_bounds r xs) words) (ap (λ (xs : List ℕ). columns_of r xs) words)
 
 -- the costs of the parts are those of the rows
 pub costs-read : (area : Area) (r : Rows) (head work columns : List ℕ) → Written area r head work columns → parts_cost r head columns ≡ rows_cost area r
 costs-read area r head work columns w =
-    ap (λ (xs : List ℕ). parts_cost r xs columns) w.head_is ∙ ap (λ (xs : List ℕ). parts_cost r (head_of r (rows_words area r)) xs) w.columns_is
+    ap (λ (xs : List ℕ). parts_cost r xs columns) w.head_is ∙ ap (λ (xs : List ℕ). parts_cost r (row_bounds r (rows_words area r)) xs) w.columns_is

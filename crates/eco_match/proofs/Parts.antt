@@ -3,12 +3,12 @@ use Rattle.eco_match.proofs.Shown.{chosen_spare, chosen_worth, chosen_price}
 use Rattle.eco_match.specs.declared.table.Table.{Table}
 use Rattle.eco_match.specs.declared.pairs.Rows.{Rows}
 use Rattle.eco_match.specs.declared.answer.MatchOut.{MatchOut}
-use Rattle.eco_match.specs.Least.{Certifies, IsShort, one_if, is_wanted, IsLeast, HasNone}
+use Rattle.eco_match.specs.Least.{Certifies, IsShort, one_if, is_wanted, IsLeastMatching, HasNone}
 use Rattle.eco_match.specs.MatchOut.{out_spare, out_worth, out_price, out_short}
 use Rattle.eco_match.specs.Phase.{AreMatched, AreBounded}
-use Rattle.eco_match.specs.Rows.{AreParts, IsTableOf, starts_of, ends_of, spares_of, costs_of, parts_cost}
+use Rattle.eco_match.specs.Rows.{AreParts, IsTableOf, starts_of, ends_of, row_spares, costs_of, parts_cost}
 use Rattle.eco_match.specs.Solve.{IsStuck, short_gate}
-use Rattle.eco_match.specs.Table.{IsTable, AreRising, RowsRise, row_cost, table_cost}
+use Rattle.eco_match.specs.Table.{IsCostTable, AreRising, RowsRise, row_cost, table_cost}
 use Rattle.eco_match.specs.Work.{natural, worth_at, price_at}
 use Rattle.eco_match.proofs.Result.{Ended, shows-ended, short-blocked}
 use Rattle.eco_match.proofs.Place.{pair-spare}
@@ -23,10 +23,10 @@ pub record FromParts (r : Rows) (head columns : List ℕ) (t : Table) : Type 0 w
   pub parts : AreParts r head columns
   pub starts : t.starts.now ≡ starts_of r head
   pub ends : t.ends.now ≡ ends_of r head
-  pub spares : t.spares.now ≡ spares_of r columns
+  pub spares : t.spares.now ≡ row_spares r columns
   pub costs : t.costs.now ≡ costs_of r columns
 
-pub table-good : (r : Rows) (head columns : List ℕ) (t : Table) → FromParts r head columns t → IsTable r.spares t
+pub table-good : (r : Rows) (head columns : List ℕ) (t : Table) → FromParts r head columns t → IsCostTable r.spares t
 table-good r head columns t f =
     rw (f.starts, f.ends, f.spares, f.costs) f.parts.good
 
@@ -47,7 +47,7 @@ table-costs r head columns t f =
     ap (λ (xs : List ℕ). row_cost xs t.ends.now t.spares.now t.costs.now) f.starts
     ∙ ap (λ (xs : List ℕ). row_cost (starts_of r head) xs t.spares.now t.costs.now) f.ends
     ∙ ap (λ (xs : List ℕ). row_cost (starts_of r head) (ends_of r head) xs t.costs.now) f.spares
-    ∙ ap (λ (xs : List ℕ). row_cost (starts_of r head) (ends_of r head) (spares_of r columns) xs) f.costs
+    ∙ ap (λ (xs : List ℕ). row_cost (starts_of r head) (ends_of r head) (row_spares r columns) xs) f.costs
 
 pub is-table : (r : Rows) (head columns : List ℕ) (t : Table) → FromParts r head columns t → IsTableOf r t
 is-table r head columns t f = record { few = f.parts.gates; inside = table-inside r head columns t f; good = table-good r head columns t f; rising = table-rising r head columns t f }
@@ -116,5 +116,5 @@ below-at r t f g s less (Some c) is some =
 pub none-short : (r : Rows) (t : Table) (out : MatchOut) → IsTableOf r t → IsShort r.gates r.spares (table_cost t) (out_short out) → HasNone r.gates (table_cost t)
 none-short r t out f short = short-none r.gates r.spares (table_cost t) (out_short out) (λ g s less some. below-at r t f g s less (table_cost t g s) refl some) short
 
-pub least-all : (gates : ℕ) (costs : ℕ → ℕ → Option ℕ) (out : MatchOut) → Certifies gates costs (out_spare out) (out_worth out) (out_price out) → IsLeast gates costs (out_spare out)
+pub least-all : (gates : ℕ) (costs : ℕ → ℕ → Option ℕ) (out : MatchOut) → Certifies gates costs (out_spare out) (out_worth out) (out_price out) → IsLeastMatching gates costs (out_spare out)
 least-all gates costs out cert = certifies-least gates costs (out_spare out) (out_worth out) (out_price out) cert

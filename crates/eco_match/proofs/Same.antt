@@ -3,14 +3,14 @@ use Rattle.std.specs.Prelude.{unwrap_or}
 use Rattle.eco_match.specs.declared.answer.MatchOut.{MatchOut}
 use Rattle.eco_match.specs.declared.answer.Matching.{Matching}
 use Rattle.eco_match.specs.declared.answer.Matching.TheVariants.{Matched, Short}
-use Rattle.eco_match.specs.Least.{IsMapping, IsLeast, HasNone, Certifies, IsShort, AreSameCosts, is_wanted, one_if, total, cost_on, signed_price_of}
+use Rattle.eco_match.specs.Least.{IsMatching, IsLeastMatching, HasNone, Certifies, IsShort, AreSameCosts, is_wanted, one_if, total, cost_on, signed_price_of}
 use Rattle.eco_match.specs.MatchOut.{IsAnswer, IsExact, out_spare, out_worth, out_price, out_short}
 use Rattle.eco_match.proofs.Sums.{sum-same}
 
 same-back : (gates : ℕ) (a b : ℕ → ℕ → Option ℕ) → AreSameCosts gates a b → AreSameCosts gates b a
 same-back gates a b same = λ g s less. sym (same g s less)
 
-pub mapping-same : (gates : ℕ) (a b : ℕ → ℕ → Option ℕ) (spare : ℕ → ℕ) → AreSameCosts gates a b → IsMapping gates a spare → IsMapping gates b spare
+pub mapping-same : (gates : ℕ) (a b : ℕ → ℕ → Option ℕ) (spare : ℕ → ℕ) → AreSameCosts gates a b → IsMatching gates a spare → IsMatching gates b spare
 mapping-same gates a b spare same map = record {
   candidate = λ g less. subst (λ (o : Option ℕ). IsSome o) (same g (spare g) less) (map.candidate g less);
   one_to_one = map.one_to_one;
@@ -27,7 +27,7 @@ certifies-same gates a b spare worth price same cert = record {
   chosen = λ g less. subst (λ (o : Option ℕ). IfSome o (λ c. (worth g -ℤ price g) ≡ pos c)) (same g (spare g) less) (cert.chosen g less);
 }
 
-pub least-same : (gates : ℕ) (a b : ℕ → ℕ → Option ℕ) (spare : ℕ → ℕ) → AreSameCosts gates a b → IsLeast gates a spare → IsLeast gates b spare
+pub least-same : (gates : ℕ) (a b : ℕ → ℕ → Option ℕ) (spare : ℕ → ℕ) → AreSameCosts gates a b → IsLeastMatching gates a spare → IsLeastMatching gates b spare
 least-same gates a b spare same least = (
   mapping-same gates a b spare same least.0,
   λ other map.

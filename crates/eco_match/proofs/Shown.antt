@@ -1,7 +1,7 @@
 use Rattle.std.proofs.Common.{ℕ, zero, suc, ◌+◌, ◌≤◌, ◌<◌, ◌≡◌, ◌==◌, if◌then◌else◌, Option, IfSome}
 use Rattle.eco_match.specs.declared.table.Table.{Table}
 use Rattle.eco_match.specs.declared.answer.MatchOut.{MatchOut}
-use Rattle.eco_match.specs.Least.{IsMapping}
+use Rattle.eco_match.specs.Least.{IsMatching}
 use Rattle.eco_match.specs.Table.{spare_at}
 use Rattle.eco_match.specs.Work.{pair_at, worth_at, price_at}
 
@@ -12,7 +12,7 @@ price_of spare price (suc n) s = if spare n == s then price n else price_of spar
 
 -- worths and prices that show that the mapping is least
 pub record Shows (gates : ℕ) (costs : ℕ → ℕ → Option ℕ) (spare worth price : ℕ → ℕ) : Type 0 where
-  pub mapping : IsMapping gates costs spare
+  pub mapping : IsMatching gates costs spare
   pub within : (g s : ℕ) → g < gates → IfSome (costs g s) (λ c. worth g ≤ c + price_of spare price gates s)
   pub chosen : (g : ℕ) → g < gates → IfSome (costs g (spare g)) (λ c. worth g ≡ c + price g)
 

@@ -1,5 +1,5 @@
 use Rattle.std.specs.Prelude.{ℕ, ◌≡◌, Bool, false, Option, slice_index, slice_index_or, ℤ, pos}
-use Rattle.eco_match.specs.Least.{Certifies, IsShort, IsLeast, HasNone}
+use Rattle.eco_match.specs.Least.{Certifies, IsShort, IsLeastMatching, HasNone}
 use Rattle.eco_match.specs.declared.answer.MatchOut.{MatchOut}
 use Rattle.eco_match.specs.declared.answer.Matching.{Matching}
 use Rattle.eco_match.specs.declared.answer.Matching.TheVariants.{Matched, Short}
@@ -24,7 +24,7 @@ IsAnswer gates spares costs out Short = IsShort gates spares costs (out_short ou
 
 -- and it is right: Matched with a least mapping, Short only where there is no mapping
 abbrev pub IsExact : ℕ → (ℕ → ℕ → Option ℕ) → MatchOut → Matching → Type 0
-IsExact gates costs out Matched = IsLeast gates costs (out_spare out)
+IsExact gates costs out Matched = IsLeastMatching gates costs (out_spare out)
 IsExact gates costs out Short = HasNone gates costs
 
 -- no gate has a spare, a worth or a price, and none is in the set

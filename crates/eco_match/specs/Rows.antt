@@ -14,8 +14,8 @@ abbrev pub work_len : Rows → ℕ
 work_len r = r.spares + 5 * (r.gates + 1)
 
 -- where the rows start and end, for each gate
-abbrev pub head_of : Rows → List ℕ → List ℕ
-head_of r words = take (2 * (r.gates + 1)) words
+abbrev pub row_bounds : Rows → List ℕ → List ℕ
+row_bounds r words = take (2 * (r.gates + 1)) words
 
 -- the spares and the costs of the pairs, one after another
 abbrev pub columns_of : Rows → List ℕ → List ℕ
@@ -27,19 +27,19 @@ starts_of r head = take (r.gates + 1) head
 abbrev pub ends_of : Rows → List ℕ → List ℕ
 ends_of r head = drop (r.gates + 1) head
 
-abbrev pub spares_of : Rows → List ℕ → List ℕ
-spares_of r columns = take r.filled columns
+abbrev pub row_spares : Rows → List ℕ → List ℕ
+row_spares r columns = take r.filled columns
 
 abbrev pub costs_of : Rows → List ℕ → List ℕ
 costs_of r columns = take r.filled (drop r.pairs columns)
 
 -- the cost of a gate on a spare, by the parts
 abbrev pub parts_cost : Rows → List ℕ → List ℕ → ℕ → ℕ → Option ℕ
-parts_cost r head columns = row_cost (starts_of r head) (ends_of r head) (spares_of r columns) (costs_of r columns)
+parts_cost r head columns = row_cost (starts_of r head) (ends_of r head) (row_spares r columns) (costs_of r columns)
 
 -- the cost of a gate on a spare, as the region has it
 abbrev pub rows_cost : Area → Rows → ℕ → ℕ → Option ℕ
-rows_cost area r = parts_cost r (head_of r (rows_words area r)) (columns_of r (rows_words area r))
+rows_cost area r = parts_cost r (row_bounds r (rows_words area r)) (columns_of r (rows_words area r))
 
 -- head and columns of rows: the pairs stand in order, gate by gate, and the row of a gate with no pair
 -- ends at 0
@@ -48,8 +48,8 @@ pub record AreParts (r : Rows) (head columns : List ℕ) : Type 0 where
   pub filled : r.filled ≤ r.pairs
   pub head_len : length head ≡ 2 * (r.gates + 1)
   pub columns_len : 2 * r.pairs ≤ length columns
-  pub good : AreColumns r.spares (starts_of r head) (ends_of r head) (spares_of r columns) (costs_of r columns)
-  pub rising : RowsRise (starts_of r head) (ends_of r head) (spares_of r columns)
+  pub good : AreColumns r.spares (starts_of r head) (ends_of r head) (row_spares r columns) (costs_of r columns)
+  pub rising : RowsRise (starts_of r head) (ends_of r head) (row_spares r columns)
   pub packed : (g : ℕ) → g ≤ r.gates → (slice_index (ends_of r head) g ≡ 0) ⊎ (slice_index (starts_of r head) g < slice_index (ends_of r head) g)
   pub last : (g : ℕ) → g ≤ r.gates → ((h : ℕ) → g < h → h ≤ r.gates → slice_index (ends_of r head) h ≡ 0) → (slice_index (ends_of r head) g ≡ 0) ⊎ (slice_index (ends_of r head) g ≡ r.filled)
 
@@ -59,7 +59,7 @@ pub record AreRows (area : Area) (r : Rows) : Type 0 where
   pub carved : IsCarved area
   pub few : r.spares < 2 ^ 32
   pub size : 2 * (r.gates + 1) + work_len r + 2 * r.pairs ≤ r.span.len
-  pub parts : AreParts r (head_of r (rows_words area r)) (columns_of r (rows_words area r))
+  pub parts : AreParts r (row_bounds r (rows_words area r)) (columns_of r (rows_words area r))
 
 -- the table of the rows
 pub record IsTableOf (r : Rows) (t : Table) : Type 0 where

@@ -21,8 +21,8 @@ pub record AreColumns (count : ℕ) (starts ends spares costs : List ℕ) : Type
   pub small : (j : ℕ) → j < length spares → slice_index costs j < 2 ^ 59
 
 -- a table for so many spares
-abbrev pub IsTable : ℕ → Table → Type 0
-IsTable count t = AreColumns count t.starts.now t.ends.now t.spares.now t.costs.now
+abbrev pub IsCostTable : ℕ → Table → Type 0
+IsCostTable count t = AreColumns count t.starts.now t.ends.now t.spares.now t.costs.now
 
 -- the cost beside the spare, among n places from one on
 abbrev pub find_cost : List ℕ → List ℕ → ℕ → ℕ → ℕ → Option ℕ

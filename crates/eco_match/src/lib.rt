@@ -5,7 +5,7 @@
 ghost use Rattle.std.specs.Prelude.{◌≡◌, ℕ, Option, Bool, ℤ};
 ghost use Rattle.eco_bench.specs.Region.{Area, IsCarved, IsStanding, words_of};
 ghost use Rattle.eco_match.specs.declared.pairs.Rows.{Rows};
-ghost use Rattle.eco_match.specs.Least.{IsLeast, HasNone, Certifies, IsShort, AreBelow, AreSameCosts};
+ghost use Rattle.eco_match.specs.Least.{IsLeastMatching, HasNone, Certifies, IsShort, AreBelow, AreSameCosts};
 ghost use Rattle.eco_match.specs.MatchOut.{IsAnswer, IsExact};
 ghost use Rattle.eco_match.specs.declared.answer.MatchOut.{MatchOut};
 ghost use Rattle.eco_match.specs.declared.answer.Matching.{Matching};
@@ -28,7 +28,7 @@ pub use pairs::{Rows, bench_need};
 
 /// Worths and prices that meet the rules show that a mapping is least.
 pub fn prices_imply_least()
-    ensures { (gates : ℕ) → (costs : ℕ → ℕ → Option ℕ) → (spare : ℕ → ℕ) → (worth price : ℕ → ℤ) → Certifies gates costs spare worth price → IsLeast gates costs spare }
+    ensures { (gates : ℕ) → (costs : ℕ → ℕ → Option ℕ) → (spare : ℕ → ℕ) → (worth price : ℕ → ℤ) → Certifies gates costs spare worth price → IsLeastMatching gates costs spare }
 {}
 
 /// A short set implies that there is no mapping.

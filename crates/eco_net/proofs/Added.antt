@@ -11,7 +11,7 @@ use Rattle.eco_net.specs.declared.rows.NetRow.{NetRow}
 use Rattle.eco_net.specs.declared.rows.CompRow.{CompRow}
 use Rattle.eco_net.specs.declared.rows.TopRow.{TopRow}
 use Rattle.eco_net.specs.Netlist.{Name, name_cmp}
-use Rattle.eco_net.specs.Listing.{Listing, netlist, component, top, pins, kind_of, rejoined, with_tie}
+use Rattle.eco_net.specs.Listing.{Listing, netlist, component, top, pins, given_kind, rejoined, with_tie}
 use Rattle.eco_net.specs.Kept.{IsKind, IsRow, IsIndexOf, IsIndexed}
 use Rattle.eco_net.proofs.Basics.{same_Some, not_None}
 use Rattle.eco_net.proofs.Places.{push_cases, apart_nil, apart_push, index_nil, index_push, apart_index, not_a_row}
@@ -236,7 +236,7 @@ none_of_none (suc n) zero i e = not_None (sym (same_Some e))
 none_of_none (suc n) (suc k) i e = none_of_none n k i e
 
 -- a row with its unconnected pins
-pub row_of_none : (m : ℕ) (row : CompRow) → IsKind (kind_of row.kind) → (n : ℕ) → n ≡ length (pins row) → row.joined ≡ replicate n None → IsRow m row
+pub row_of_none : (m : ℕ) (row : CompRow) → IsKind (given_kind row.kind) → (n : ℕ) → n ≡ length (pins row) → row.joined ≡ replicate n None → IsRow m row
 row_of_none m row kind n e f = record {
   kind = kind;
   each_pin = ap length f ∙ length-replicate n None ∙ e;

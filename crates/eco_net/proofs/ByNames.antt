@@ -11,7 +11,7 @@ use Rattle.eco_net.specs.declared.rows.NetRow.{NetRow}
 use Rattle.eco_net.specs.declared.rows.CompRow.{CompRow}
 use Rattle.eco_net.specs.declared.ids.CompId.{CompId}
 use Rattle.eco_net.specs.Netlist.{Name, name_cmp, Component, CompPin, role_of}
-use Rattle.eco_net.specs.Listing.{Listing, netlist, component, pins, net_name, comp_name, pin_at, AreApart, HasPin, FindsPin, FindsName, FindsPinNamed}
+use Rattle.eco_net.specs.Listing.{Listing, netlist, component, pins, net_name, comp_name, pin_at, AreDistinctNames, HasPin, FindsPin, FindsName, FindsPinNamed}
 use Rattle.eco_net.specs.Kept.{IsListing}
 use Rattle.eco_net.proofs.Basics.{same_Some, not_None, cmp_itself, cmp_apart, has_found, contains_from_has}
 use Rattle.eco_net.proofs.Places.{name_of_row, row_of_name}
@@ -32,7 +32,7 @@ any_other (r ∷ rows) q none = go r.tie (any_other rows q (λ i. none (suc i)))
     go false rest = rest
 
 -- of the names of marked rows a row's name is one exactly where the row is marked
-any_marked : (rows : List NetRow) (n : ℕ) (r : NetRow) → AreApart (map (λ r. r.name) rows) → slice_get rows n ≡ Some r → list_any (eq_by_cmp name_cmp r.name) (marked rows) ≡ r.tie
+any_marked : (rows : List NetRow) (n : ℕ) (r : NetRow) → AreDistinctNames (map (λ r. r.name) rows) → slice_get rows n ≡ Some r → list_any (eq_by_cmp name_cmp r.name) (marked rows) ≡ r.tie
 any_marked [] n r a e = absurd (not_None (sym e))
 any_marked (x ∷ rows) zero r a e =
     subst (λ r. list_any (eq_by_cmp name_cmp r.name) (marked (x ∷ rows)) ≡ r.tie) (same_Some e) (go x.tie)

@@ -12,7 +12,7 @@ use Rattle.eco_net.specs.declared.rows.NetRow.{NetRow}
 use Rattle.eco_net.specs.declared.rows.CompRow.{CompRow}
 use Rattle.eco_net.specs.declared.rows.TopRow.{TopRow}
 use Rattle.eco_net.specs.Netlist.{Name, name_cmp, Component, Top, Role}
-use Rattle.eco_net.specs.Listing.{component, top, pins, joints, net_name, with_tie, AreApart}
+use Rattle.eco_net.specs.Listing.{component, top, pins, row_joints, net_name, with_tie, AreDistinctNames}
 use Rattle.eco_net.specs.Kept.{IsRow}
 use Rattle.eco_net.proofs.Basics.{same_Some, not_None, same_name, same_of_cmp, cmp_itself, cmp_apart}
 use Rattle.eco_net.proofs.Places.{name_of_row, push_old, at_place}
@@ -29,7 +29,7 @@ abbrev pub AlikeTo : List NetRow → List NetRow → ℕ → Type 0
 AlikeTo nets more n = (i : ℕ) → i < n → net_name more i ≡ net_name nets i
 
 module _ (nets more : List NetRow) (n : ℕ) (alike : AlikeTo nets more n) where
-  joints_alike : (ps : List (Name × Role)) (js : List (Option ℕ)) → ((k i : ℕ) → slice_get js k ≡ Some (Some i) → i < n) → joints more ps js ≡ joints nets ps js
+  joints_alike : (ps : List (Name × Role)) (js : List (Option ℕ)) → ((k i : ℕ) → slice_get js k ≡ Some (Some i) → i < n) → row_joints more ps js ≡ row_joints nets ps js
   joints_alike [] js h = refl
   joints_alike (p ∷ ps) [] h = refl
   joints_alike (p ∷ ps) (None ∷ js) h = joints_alike ps js (λ k. h (suc k))
@@ -55,7 +55,7 @@ tied_alike nets n i =
 
 -- ---- unconnected pins
 
-pub joints_none : (nets : List NetRow) (ps : List (Name × Role)) (n : ℕ) → joints nets ps (replicate n None) ≡ []
+pub joints_none : (nets : List NetRow) (ps : List (Name × Role)) (n : ℕ) → row_joints nets ps (replicate n None) ≡ []
 joints_none nets [] n = refl
 joints_none nets (p ∷ ps) zero = refl
 joints_none nets (p ∷ ps) (suc n) = joints_none nets ps n
@@ -71,48 +71,48 @@ module _ (nets : List NetRow) where
   abbrev nm : ℕ → Name
   nm = net_name nets
 
-  none_of : (ps : List (Name × Role)) (js : List (Option ℕ)) (q : Name) → ((i : ℕ) → slice_get (map (λ p. p.0) ps) i ≡ Some q → ⊥) → find name_cmp q (joints nets ps js) ≡ None
+  none_of : (ps : List (Name × Role)) (js : List (Option ℕ)) (q : Name) → ((i : ℕ) → slice_get (map (λ p. p.0) ps) i ≡ Some q → ⊥) → find name_cmp q (row_joints nets ps js) ≡ None
   none_of [] js q a = refl
   none_of (p ∷ ps) [] q a = refl
   none_of (p ∷ ps) (None ∷ js) q a = none_of ps js q (λ i. a (suc i))
   none_of (p ∷ ps) (Some i ∷ js) q a =
-      ap (λ b. cond b (Some (nm i)) (find name_cmp q (joints nets ps js))) (cmp_apart q p.0 (λ s. a 0 (ap Some (sym s))))
+      ap (λ b. cond b (Some (nm i)) (find name_cmp q (row_joints nets ps js))) (cmp_apart q p.0 (λ s. a 0 (ap Some (sym s))))
       ∙ none_of ps js q (λ i. a (suc i))
 
   -- what is under a pin's name but one, and past it
-  past_first : (p : Name × Role) (ps : List (Name × Role)) (old : Option ℕ) (js : List (Option ℕ)) (q : Name) → q ≢ p.0 → find name_cmp q (joints nets (p ∷ ps) (old ∷ js)) ≡ find name_cmp q (joints nets ps js)
+  past_first : (p : Name × Role) (ps : List (Name × Role)) (old : Option ℕ) (js : List (Option ℕ)) (q : Name) → q ≢ p.0 → find name_cmp q (row_joints nets (p ∷ ps) (old ∷ js)) ≡ find name_cmp q (row_joints nets ps js)
   past_first p ps None js q n = refl
-  past_first p ps (Some i) js q n = ap (λ b. cond b (Some (nm i)) (find name_cmp q (joints nets ps js))) (cmp_apart q p.0 n)
+  past_first p ps (Some i) js q n = ap (λ b. cond b (Some (nm i)) (find name_cmp q (row_joints nets ps js))) (cmp_apart q p.0 n)
 
-  at_first : (p : Name × Role) (ps : List (Name × Role)) (old : Option ℕ) (js : List (Option ℕ)) (q : Name) → AreApart (map (λ p. p.0) (p ∷ ps)) → q ≡ p.0 → find name_cmp q (joints nets (p ∷ ps) (old ∷ js)) ≡ option_map nm old
+  at_first : (p : Name × Role) (ps : List (Name × Role)) (old : Option ℕ) (js : List (Option ℕ)) (q : Name) → AreDistinctNames (map (λ p. p.0) (p ∷ ps)) → q ≡ p.0 → find name_cmp q (row_joints nets (p ∷ ps) (old ∷ js)) ≡ option_map nm old
   at_first p ps None js q a s = none_of ps js q (λ i h. apart_first p.0 (map (λ p. p.0) ps) a i q h s)
-  at_first p ps (Some i) js q a s = ap (λ b. cond b (Some (nm i)) (find name_cmp q (joints nets ps js))) (ap (λ x. eq_by_cmp name_cmp x p.0) s ∙ cmp_itself p.0)
+  at_first p ps (Some i) js q a s = ap (λ b. cond b (Some (nm i)) (find name_cmp q (row_joints nets ps js))) (ap (λ x. eq_by_cmp name_cmp x p.0) s ∙ cmp_itself p.0)
 
-  first_put : (p : Name × Role) (ps : List (Name × Role)) (old new : Option ℕ) (js : List (Option ℕ)) (q : Name) → AreApart (map (λ p. p.0) (p ∷ ps)) → find name_cmp q (joints nets (p ∷ ps) (new ∷ js)) ≡ cond (eq_by_cmp name_cmp q p.0) (option_map nm new) (find name_cmp q (joints nets (p ∷ ps) (old ∷ js)))
+  first_put : (p : Name × Role) (ps : List (Name × Role)) (old new : Option ℕ) (js : List (Option ℕ)) (q : Name) → AreDistinctNames (map (λ p. p.0) (p ∷ ps)) → find name_cmp q (row_joints nets (p ∷ ps) (new ∷ js)) ≡ cond (eq_by_cmp name_cmp q p.0) (option_map nm new) (find name_cmp q (row_joints nets (p ∷ ps) (old ∷ js)))
   first_put p ps old new js q a = ⊎_elim
-      (λ s. at_first p ps new js q a s ∙ sym (ap (λ b. cond b (option_map nm new) (find name_cmp q (joints nets (p ∷ ps) (old ∷ js)))) (ap (λ x. eq_by_cmp name_cmp x p.0) s ∙ cmp_itself p.0)))
-      (λ n. past_first p ps new js q n ∙ sym (ap (λ b. cond b (option_map nm new) (find name_cmp q (joints nets (p ∷ ps) (old ∷ js)))) (cmp_apart q p.0 n) ∙ past_first p ps old js q n))
+      (λ s. at_first p ps new js q a s ∙ sym (ap (λ b. cond b (option_map nm new) (find name_cmp q (row_joints nets (p ∷ ps) (old ∷ js)))) (ap (λ x. eq_by_cmp name_cmp x p.0) s ∙ cmp_itself p.0)))
+      (λ n. past_first p ps new js q n ∙ sym (ap (λ b. cond b (option_map nm new) (find name_cmp q (row_joints nets (p ∷ ps) (old ∷ js)))) (cmp_apart q p.0 n) ∙ past_first p ps old js q n))
       (same_name q p.0)
 
-  joint_put_at : (ps : List (Name × Role)) (js : List (Option ℕ)) (k : ℕ) (p : Name × Role) (new : Option ℕ) (q : Name) → AreApart (map (λ p. p.0) ps) → slice_get ps k ≡ Some p → k < length js → find name_cmp q (joints nets ps (slice_set js k new)) ≡ cond (eq_by_cmp name_cmp q p.0) (option_map nm new) (find name_cmp q (joints nets ps js))
+  joint_put_at : (ps : List (Name × Role)) (js : List (Option ℕ)) (k : ℕ) (p : Name × Role) (new : Option ℕ) (q : Name) → AreDistinctNames (map (λ p. p.0) ps) → slice_get ps k ≡ Some p → k < length js → find name_cmp q (row_joints nets ps (slice_set js k new)) ≡ cond (eq_by_cmp name_cmp q p.0) (option_map nm new) (find name_cmp q (row_joints nets ps js))
   joint_put_at [] js k p new q a e h = absurd (not_None (sym e))
   joint_put_at (x ∷ ps) [] k p new q a e h = absurd (omega (arith, h))
   joint_put_at (x ∷ ps) (old ∷ js) zero p new q a e h =
       first_put x ps old new js q a
-      ∙ ap (λ (y : Name × Role). cond (eq_by_cmp name_cmp q y.0) (option_map nm new) (find name_cmp q (joints nets (x ∷ ps) (old ∷ js)))) (same_Some e)
+      ∙ ap (λ (y : Name × Role). cond (eq_by_cmp name_cmp q y.0) (option_map nm new) (find name_cmp q (row_joints nets (x ∷ ps) (old ∷ js)))) (same_Some e)
   joint_put_at (x ∷ ps) (None ∷ js) (suc k) p new q a e h = joint_put_at ps js k p new q (apart_rest x.0 (map (λ p. p.0) ps) a) e (omega (arith, h))
   joint_put_at (x ∷ ps) (Some i ∷ js) (suc k) p new q a e h =
       ap (cond (eq_by_cmp name_cmp q x.0) (Some (nm i))) (joint_put_at ps js k p new q (apart_rest x.0 (map (λ p. p.0) ps) a) e (omega (arith, h)))
-      ∙ swap (eq_by_cmp name_cmp q x.0) (eq_by_cmp name_cmp q p.0) (nm i) (option_map nm new) (find name_cmp q (joints nets ps js)) (λ f g.
+      ∙ swap (eq_by_cmp name_cmp q x.0) (eq_by_cmp name_cmp q p.0) (nm i) (option_map nm new) (find name_cmp q (row_joints nets ps js)) (λ f g.
       apart_first x.0 (map (λ p. p.0) ps) a k p.0 (name_of_row (λ p. p.0) ps k p e) (sym (same_of_cmp q p.0 g) ∙ same_of_cmp q x.0 f))
 
-  -- what a row's joints say under each pin's name after one of them changed
-  pub joined_put : (r : CompRow) (n k : ℕ) (p : Name × Role) (new : Option ℕ) (q : Name) → IsRow n r → slice_get (pins r) k ≡ Some p → get (from_entries {R = name_cmp} (joints nets (pins r) (slice_set r.joined k new))) q ≡ cond (eq_by_cmp name_cmp q p.0) (option_map nm new) (get (component nets r).joined q)
+  -- what a row's row_joints say under each pin's name after one of them changed
+  pub joined_put : (r : CompRow) (n k : ℕ) (p : Name × Role) (new : Option ℕ) (q : Name) → IsRow n r → slice_get (pins r) k ≡ Some p → get (from_entries {R = name_cmp} (row_joints nets (pins r) (slice_set r.joined k new))) q ≡ cond (eq_by_cmp name_cmp q p.0) (option_map nm new) (get (component nets r).joined q)
   joined_put r n k p new q row e =
       let w = slice_get_within (pins r) k p e in
-      get-from_entries nat_list_cmp_total (joints nets (pins r) (slice_set r.joined k new)) q
+      get-from_entries nat_list_cmp_total (row_joints nets (pins r) (slice_set r.joined k new)) q
       ∙ joint_put_at (pins r) r.joined k p new q row.kind.apart e (omega (arith, w, row.each_pin))
-      ∙ ap (cond (eq_by_cmp name_cmp q p.0) (option_map nm new)) (sym (get-from_entries nat_list_cmp_total (joints nets (pins r) r.joined) q))
+      ∙ ap (cond (eq_by_cmp name_cmp q p.0) (option_map nm new)) (sym (get-from_entries nat_list_cmp_total (row_joints nets (pins r) r.joined) q))
 
 -- ---- one row of a list
 
@@ -124,7 +124,7 @@ module _ {R X : Type 0} (name : R → Name) (f : R → X) where
   shadow true v w rest = refl
   shadow false v w rest = refl
 
-  row_put_at : (rows : List R) (c : ℕ) (r s : R) (q : Name) → AreApart (map name rows) → slice_get rows c ≡ Some r → name s ≡ name r → find name_cmp q (map entry (slice_set rows c s)) ≡ cond (eq_by_cmp name_cmp q (name r)) (Some (f s)) (find name_cmp q (map entry rows))
+  row_put_at : (rows : List R) (c : ℕ) (r s : R) (q : Name) → AreDistinctNames (map name rows) → slice_get rows c ≡ Some r → name s ≡ name r → find name_cmp q (map entry (slice_set rows c s)) ≡ cond (eq_by_cmp name_cmp q (name r)) (Some (f s)) (find name_cmp q (map entry rows))
   row_put_at [] c r s q a e n = absurd (not_None (sym e))
   row_put_at (x ∷ rows) zero r s q a e n =
       ap (λ m. cond (eq_by_cmp name_cmp q m) (Some (f s)) (find name_cmp q (map entry rows))) n
@@ -136,7 +136,7 @@ module _ {R X : Type 0} (name : R → Name) (f : R → X) where
       apart_first (name x) (map name rows) a c (name r) (name_of_row name rows c r e) (sym (same_of_cmp q (name r) h) ∙ same_of_cmp q (name x) g))
 
   -- a row that changes is the entry under its name
-  pub row_put : (rows : List R) (c : ℕ) (r s : R) → AreApart (map name rows) → slice_get rows c ≡ Some r → name s ≡ name r → from_entries {R = name_cmp} (map entry (slice_set rows c s)) ≡ insert (from_entries (map entry rows)) (name r) (f s)
+  pub row_put : (rows : List R) (c : ℕ) (r s : R) → AreDistinctNames (map name rows) → slice_get rows c ≡ Some r → name s ≡ name r → from_entries {R = name_cmp} (map entry (slice_set rows c s)) ≡ insert (from_entries (map entry rows)) (name r) (f s)
   row_put rows c r s a e n = same_map nat_list_cmp_total exact_bytes _ _ (λ q.
       get-from_entries nat_list_cmp_total (map entry (slice_set rows c s)) q
       ∙ row_put_at rows c r s q a e n

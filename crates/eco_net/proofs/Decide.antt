@@ -1,7 +1,7 @@
 -- Which kind of net a name is can be decided: its driving pins are among a list
 use Rattle.std.proofs.Common.{◌≡◌, ◌≢◌, Bool, true, false, cond, List, [], ◌∷◌, ◌++◌, map, Option, Some, None, refl, sym, ap, ap₂, ◌∙◌, subst, inl, inr, ⊎_elim, ◌⊎◌, true≢false}
 use Rattle.std.specs.FinMap.{get, entries, keys, find, get-entries}
-use Rattle.eco_net.specs.Netlist.{Name, name_cmp, Netlist, Component, Top, Pin, TopPin, CompPin, Role, Reads, Computes, Outside, pins_of, role_of, inputs_of}
+use Rattle.eco_net.specs.Netlist.{Name, name_cmp, Netlist, Component, Top, Pin, TopPin, CompPin, Role, GateInput, GateOutput, BoxedPin, pins_of, role_of, input_nets}
 use Rattle.eco_net.specs.Drivers.{is_driving, driven, driven_at, driven_top, IsDriver, Computed, IsFree}
 use Rattle.eco_net.specs.CutKeys.{KeyOf, CutKey, PinKey, NetKey, is_source_pin}
 use Rattle.eco_net.proofs.Basics.{Has, same_name, same_Some, not_None, has_key, has_found, has_append_left, has_append_right, has_map, find_rest, find_first}
@@ -130,32 +130,32 @@ key_shape N n p false d e f = free_net (NetKey n) f (refl, λ q c k. true≢fals
 
 -- a gate's output, or no gate's output
 data Output (o : Option Role) : Type 0 where
-  computes : (table : List Bool) → o ≡ Some (Computes table) → Output o
-  other : ((table : List Bool) → o ≡ Some (Computes table) → ⊥) → Output o
+  computes : (table : List Bool) → o ≡ Some (GateOutput table) → Output o
+  other : ((table : List Bool) → o ≡ Some (GateOutput table) → ⊥) → Output o
 
 table_from : Option Role → Option (List Bool)
 table_from None = None
-table_from (Some Reads) = None
-table_from (Some (Computes t)) = Some t
-table_from (Some (Outside d)) = None
+table_from (Some GateInput) = None
+table_from (Some (GateOutput t)) = Some t
+table_from (Some (BoxedPin d)) = None
 
-pub same_table : {t u : List Bool} {o : Option Role} → o ≡ Some (Computes t) → o ≡ Some (Computes u) → t ≡ u
+pub same_table : {t u : List Bool} {o : Option Role} → o ≡ Some (GateOutput t) → o ≡ Some (GateOutput u) → t ≡ u
 unfolding table_from
 same_table a b = same_Some (ap table_from (sym a ∙ b))
 
 output_of : (o : Option Role) → Output o
 unfolding table_from
 output_of None = other (λ t e. not_None (sym e))
-output_of (Some Reads) = other (λ t e. not_None (sym (ap table_from e)))
-output_of (Some (Computes t)) = computes t refl
-output_of (Some (Outside d)) = other (λ t e. not_None (sym (ap table_from e)))
+output_of (Some GateInput) = other (λ t e. not_None (sym (ap table_from e)))
+output_of (Some (GateOutput t)) = computes t refl
+output_of (Some (BoxedPin d)) = other (λ t e. not_None (sym (ap table_from e)))
 
 comp_shape : (N : Netlist) (n : Name) (c k : Name) (o : Option Component) → get N.nets n ≡ Some None → IsDriver N n (CompPin c k) → get N.comps c ≡ o → Shape N n
 comp_shape N n c k None u d e = absurd (not_None (sym (sym (ap (λ o. driven_at o k) e) ∙ d.drives)))
 comp_shape N n c k (Some x) u d e = go (output_of (role_of x k))
   where
     go : Output (role_of x k) → Shape N n
-    go (computes t f) = computed_net t (inputs_of x) (record { unsupplied = u; comp = c; pin = k; gate = x; is = e; driver = d; at = f; reads = refl })
+    go (computes t f) = computed_net t (input_nets x) (record { unsupplied = u; comp = c; pin = k; gate = x; is = e; driver = d; at = f; reads = refl })
     go (other f) = key_shape N n (CompPin c k) _ d refl (
       u,
       λ m.

@@ -8,12 +8,12 @@ use Rattle.eco_net.specs.declared.kind.Kind.{Kind}
 use Rattle.eco_net.specs.declared.kind.Kind.TheVariants.{Gate, Boxed}
 use Rattle.eco_net.specs.declared.rows.CompRow.{CompRow}
 use Rattle.eco_net.specs.declared.ids.PinRef.TheVariants.{Pin}
-use Rattle.eco_net.specs.Netlist.{Name, Netlist, Gate as GateNamed, CompPin, inputs_of}
+use Rattle.eco_net.specs.Netlist.{Name, Netlist, Gate as GateNamed, CompPin, input_nets}
 use Rattle.eco_net.specs.Drivers.{IsDriver, Computed}
 use Rattle.eco_net.specs.Depth.{IsGate, Feeds, Behind, IsDepth}
-use Rattle.eco_net.specs.Listing.{Listing, netlist, component, kind_of}
+use Rattle.eco_net.specs.Listing.{Listing, netlist, component, given_kind}
 use Rattle.eco_net.specs.Kept.{IsListing}
-use Rattle.eco_net.specs.Gates.{GatePin, computed_by, input_count, inputs_in, inputs_at}
+use Rattle.eco_net.specs.Gates.{GatePin, computed_by, input_count, gate_inputs, inputs_at}
 use Rattle.eco_net.specs.DepthsOf.{depth_at, deepest, gate_depth, AreDepths}
 use Rattle.eco_net.proofs.Basics.{Has, same_Some, has_from_contains, contains_from_has, has_map, has_of_map}
 use Rattle.eco_net.proofs.Decide.{same_comp}
@@ -72,7 +72,7 @@ module _ (L : Listing) (is : IsListing L) where
   input_known : (c : ℕ) (y : GateRow L c) (a : ℕ) → Has (inputs_at L c) (Some a) → a < length L.nets
   input_known c y a h =
       let p = at_has (inputs_at L c) (Some a) h in
-      let q = taken_at (input_count y.row.kind) y.row.joined p.0 (Some a) (sym (ap (λ o. slice_get (inputs_in o) p.0) y.at) ∙ p.1) in
+      let q = taken_at (input_count y.row.kind) y.row.joined p.0 (Some a) (sym (ap (λ o. slice_get (gate_inputs o) p.0) y.at) ∙ p.1) in
       (is.rows c y.row y.at).known p.0 a q.1
 
   -- ---- what feeds a gate
@@ -106,8 +106,8 @@ module _ (L : Listing) (is : IsListing L) where
       let w = number_of L is f.net (f.table, f.inputs, f.computed) in
       let g = named_computed L is w.0 w.1 f.table f.inputs (subst (λ n. Computed N n f.table f.inputs) (sym w.2) f.computed) in
       let x = gate_is L w.0 g.0 g.1 in
-      let named : inputs_of f.gate ≡ map (option_map (nm L is)) (inputs_at L c) = ap inputs_of same ∙ inputs_named L is c y.row y.master y.at y.kind in
-      let j = has_of_map (option_map (nm L is)) (inputs_at L c) (Some f.net) (subst (λ js. Has js (Some f.net)) named (has_from_contains (inputs_of f.gate) _ f.reads)) in
+      let named : input_nets f.gate ≡ map (option_map (nm L is)) (inputs_at L c) = ap input_nets same ∙ inputs_named L is c y.row y.master y.at y.kind in
+      let j = has_of_map (option_map (nm L is)) (inputs_at L c) (Some f.net) (subst (λ js. Has js (Some f.net)) named (has_from_contains (input_nets f.gate) _ f.reads)) in
       let i = some_name L is j.0 f.net j.2 in
       let has : Has (inputs_at L c) (Some i.0) = subst (Has (inputs_at L c)) i.1 j.1 in
       let here : i.0 ≡ w.0 = same_net L is i.0 w.0 (input_known c y i.0 has) w.1 (i.2 ∙ sym w.2) in
@@ -150,7 +150,7 @@ module _ (L : Listing) (is : IsListing L) where
         go (inr (None, h, f)) rest = absurd (omega (arith, e, f))
         go (inr (Some a, h, f)) rest = by_gate a h f (computed_by L a) refl rest
 
-    given_gate : (k : Kind) (ins : List Name) (outs : _) → kind_of k ≡ GateNamed ins outs → (m : MasterTables) × (k ≡ Gate m)
+    given_gate : (k : Kind) (ins : List Name) (outs : _) → given_kind k ≡ GateNamed ins outs → (m : MasterTables) × (k ≡ Gate m)
     given_gate (Gate m) ins outs e = (m, refl)
     given_gate (Boxed ps) ins outs e = absurd (cc)
 
@@ -172,7 +172,7 @@ module _ (L : Listing) (is : IsListing L) where
         gate : (c : ℕ) (y : GateRow L c) → d ≡ gate_depth L ds c → (q : Name) × IsGate N q × (k : ℕ) × (d ≡ suc k) × Behind N q k
         gate c y e = (
           y.row.name,
-          record { gate = component L.nets y.row; inputs = y.master.inputs; outputs = _; is = comp_is L is c y.row y.at; kind = ap kind_of y.kind },
+          record { gate = component L.nets y.row; inputs = y.master.inputs; outputs = _; is = comp_is L is c y.row y.at; kind = ap given_kind y.kind },
           deepest ds (inputs_at L c),
           omega (arith, e),
           so_long (deepest ds (inputs_at L c)) c y refl,

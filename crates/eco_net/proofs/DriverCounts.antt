@@ -8,11 +8,11 @@ use Rattle.eco_net.specs.declared.ids.PinRef.{PinRef}
 use Rattle.eco_net.specs.declared.drivers.Driving.TheVariants.{None as Undriven, One, Several}
 use Rattle.eco_net.specs.Netlist.{Pin}
 use Rattle.eco_net.specs.Drivers.{driven, HasDrivers}
-use Rattle.eco_net.specs.Listing.{Listing, netlist, net_name, pin_named}
+use Rattle.eco_net.specs.Listing.{Listing, netlist, net_name, numbered_pin}
 use Rattle.eco_net.specs.Kept.{IsListing}
 use Rattle.eco_net.specs.Driving.{driving_of}
 use Rattle.eco_net.specs.PinOrder.{pin_order}
-use Rattle.eco_net.specs.Pins.{AreKnown}
+use Rattle.eco_net.specs.Pins.{AreKnownPins}
 use Rattle.eco_net.specs.ByNumber.{drives, is_on, all_pins, pins_on}
 use Rattle.eco_net.proofs.Basics.{Has, same_Some, not_None, has_from_contains, contains_from_has, has_map, has_of_map}
 use Rattle.eco_net.proofs.Places.{row_of_name}
@@ -37,7 +37,7 @@ sorted_once (x ∷ xs) s zero (suc j) p e f = absurd (not_less x p (all_at (λ y
 sorted_once (x ∷ xs) s (suc i) zero p e f = absurd (not_less x p (all_at (λ y. pin_order x y ≡ Less) xs s.0 p (has_at xs i p e)) (same_Some f))
 sorted_once (x ∷ xs) s (suc i) (suc j) p e f = ap suc (sorted_once xs s.1 i j p e f)
 
-pub all_known : (L : Listing) (n : ℕ) → AreKnown L (pins_on L n)
+pub all_known : (L : Listing) (n : ℕ) → AreKnownPins L (pins_on L n)
 all_known L n p c = known_has L p (filter_has (is_on L n) (all_pins L) p (has_from_contains (pins_on L n) p c)).0
 
 module _ (L : Listing) (is : IsListing L) (n : ℕ) (h : n < length L.nets) where
@@ -47,10 +47,10 @@ module _ (L : Listing) (is : IsListing L) (n : ℕ) (h : n < length L.nets) wher
   sorted : IsStrictlySortedBy pin_order its
   sorted = IsStrictlySortedBy-filter pin_order (drives L) (pins_on L n) (IsStrictlySortedBy-filter pin_order (is_on L n) (all_pins L) (pins_sorted L))
 
-  once : (i j : ℕ) (p : Pin) → slice_get (map (pin_named L) its) i ≡ Some p → slice_get (map (pin_named L) its) j ≡ Some p → i ≡ j
+  once : (i j : ℕ) (p : Pin) → slice_get (map (numbered_pin L) its) i ≡ Some p → slice_get (map (numbered_pin L) its) j ≡ Some p → i ≡ j
   once i j p e f =
-      let v = row_of_name (pin_named L) its i p e in
-      let w = row_of_name (pin_named L) its j p f in
+      let v = row_of_name (numbered_pin L) its i p e in
+      let w = row_of_name (numbered_pin L) its j p f in
       let a = driving_has L is n v.0 (has_at its i v.0 v.1) in
       let b = driving_has L is n w.0 (has_at its j w.0 w.1) in
       sorted_once its sorted i j v.0 v.1 (w.1 ∙ ap Some (same_pin L is w.0 v.0 b.0 a.0 (w.2 ∙ sym v.2)))
@@ -58,17 +58,17 @@ module _ (L : Listing) (is : IsListing L) (n : ℕ) (h : n < length L.nets) wher
   -- the driving pins by number are all that drive the net
   pub counted : (count : ℕ) → length its ≡ count → HasDrivers (netlist L) (net_name L.nets n) count
   counted count l = record {
-    pins = map (pin_named L) its;
+    pins = map (numbered_pin L) its;
     once = once;
     each = λ p. (
-      λ c. let w = has_of_map (pin_named L) its p (has_from_contains (map (pin_named L) its) p c) in
+      λ c. let w = has_of_map (numbered_pin L) its p (has_from_contains (map (numbered_pin L) its) p c) in
           let a = driving_has L is n w.0 w.1 in
           ap (driven (netlist L)) (sym w.2) ∙ drives_named L is n w.0 a.0 a.1,
       λ d. let w = pin_driving L is p (net_name L.nets n) d in
           let g = named_drives L is n w.0 h w.1 (ap (driven (netlist L)) w.2 ∙ d) in
-          subst (Contains (map (pin_named L) its)) w.2 (contains_from_has (map (pin_named L) its) (pin_named L w.0) (has_map (pin_named L) its w.0 (has_driving L is n w.0 w.1 g))),
+          subst (Contains (map (numbered_pin L) its)) w.2 (contains_from_has (map (numbered_pin L) its) (numbered_pin L w.0) (has_map (numbered_pin L) its w.0 (has_driving L is n w.0 w.1 g))),
     );
-    counted = length-map its (pin_named L) ∙ l;
+    counted = length-map its (numbered_pin L) ∙ l;
   }
 
   none_of : (ps : List PinRef) → driving_of ps ≡ Undriven → length ps ≡ 0

@@ -9,7 +9,7 @@ use Rattle.std.specs.Cmp.Lexicographic.{nat_list_cmp_total}
 use Rattle.eco_net.specs.declared.ids.PinRef.{PinRef}
 use Rattle.eco_net.specs.Netlist.{Pin}
 use Rattle.eco_net.specs.Drivers.{driven, IsDriver}
-use Rattle.eco_net.specs.Listing.{Listing, netlist, net_name, pin_named, IsKnownPin}
+use Rattle.eco_net.specs.Listing.{Listing, netlist, net_name, numbered_pin, IsKnownPin}
 use Rattle.eco_net.specs.Kept.{IsListing}
 use Rattle.eco_net.specs.PinOrder.{pin_number, pin_order}
 use Rattle.eco_net.specs.ByNumber.{net_at, drives, is_on, all_pins, pins_on, sole, driver_at}
@@ -49,10 +49,10 @@ module _ (L : Listing) (is : IsListing L) where
       let v = filter_has (is_on L n) (all_pins L) p w.0 in
       (known_has L p v.0, ap (λ b. cond b (net_at L p) None) w.1 ∙ on_net (net_at L p) n v.1)
 
-  pub drives_named : (n : ℕ) (p : PinRef) → IsKnownPin L p → drives_net L p ≡ Some n → driven (netlist L) (pin_named L p) ≡ Some (net_name L.nets n)
+  pub drives_named : (n : ℕ) (p : PinRef) → IsKnownPin L p → drives_net L p ≡ Some n → driven (netlist L) (numbered_pin L p) ≡ Some (net_name L.nets n)
   drives_named n p k e = driven_named L is p k ∙ ap (option_map (net_name L.nets)) e
 
-  pub named_drives : (n : ℕ) (p : PinRef) → n < length L.nets → IsKnownPin L p → driven (netlist L) (pin_named L p) ≡ Some (net_name L.nets n) → drives_net L p ≡ Some n
+  pub named_drives : (n : ℕ) (p : PinRef) → n < length L.nets → IsKnownPin L p → driven (netlist L) (numbered_pin L p) ≡ Some (net_name L.nets n) → drives_net L p ≡ Some n
   named_drives n p h k e = go (drives_net L p) refl (sym (driven_named L is p k) ∙ e)
     where
       go : (o : Option ℕ) → drives_net L p ≡ o → option_map (net_name L.nets) o ≡ Some (net_name L.nets n) → drives_net L p ≡ Some n
@@ -62,7 +62,7 @@ module _ (L : Listing) (is : IsListing L) where
           f ∙ ap Some (same_net L is m n (known_net L is p m k j.1) h (same_Some g))
 
   -- the driver that is found is the one driving pin
-  pub driver_named : (n : ℕ) (p : PinRef) → n < length L.nets → driver_at L n ≡ Some p → IsKnownPin L p × IsDriver (netlist L) (net_name L.nets n) (pin_named L p)
+  pub driver_named : (n : ℕ) (p : PinRef) → n < length L.nets → driver_at L n ≡ Some p → IsKnownPin L p × IsDriver (netlist L) (net_name L.nets n) (numbered_pin L p)
   driver_named n p h e =
       let only : driving n ≡ p ∷ [] = sole_is (driving n) p e in
       let this = driving_has n p (subst (λ xs. Has xs p) (sym only) (inl refl)) in (
@@ -73,7 +73,7 @@ module _ (L : Listing) (is : IsListing L) where
               let w = pin_driving L is q (net_name L.nets n) d in
               let g = named_drives n w.0 h w.1 (ap (driven (netlist L)) w.2 ∙ d) in
               let i : Has (p ∷ []) w.0 = subst (λ xs. Has xs w.0) only (has_driving n w.0 w.1 g) in
-              ⊎_elim (λ s. sym w.2 ∙ ap (pin_named L) (sym s)) (λ z. absurd z) i;
+              ⊎_elim (λ s. sym w.2 ∙ ap (numbered_pin L) (sym s)) (λ z. absurd z) i;
         },
       )
 
@@ -89,7 +89,7 @@ module _ (L : Listing) (is : IsListing L) where
       same x i y j =
           let a = driving_has n x i in
           let b = driving_has n y j in
-          same_pin L is x y a.0 b.0 (d.only (pin_named L x) (drives_named n x a.0 a.1) ∙ sym (d.only (pin_named L y) (drives_named n y b.0 b.1)))
+          same_pin L is x y a.0 b.0 (d.only (numbered_pin L x) (drives_named n x a.0 a.1) ∙ sym (d.only (numbered_pin L y) (drives_named n y b.0 b.1)))
 
       go : (xs : List PinRef) → driving n ≡ xs → IsStrictlySortedBy pin_order xs → sole xs ≡ None → (p : PinRef) → Has xs p → ⊥
       go [] f s z p i = i
@@ -97,12 +97,12 @@ module _ (L : Listing) (is : IsListing L) where
       go (x ∷ y ∷ xs) f s z p i = not_less x y s.0.0 (same x (subst (λ ys. Has ys x) (sym f) (inl refl)) y (subst (λ ys. Has ys y) (sym f) (inr (inl refl))))
 
   -- the one driving pin is found
-  pub driver_number : (n : ℕ) (q : Pin) → n < length L.nets → IsDriver (netlist L) (net_name L.nets n) q → (p : PinRef) × (driver_at L n ≡ Some p) × IsKnownPin L p × (pin_named L p ≡ q)
+  pub driver_number : (n : ℕ) (q : Pin) → n < length L.nets → IsDriver (netlist L) (net_name L.nets n) q → (p : PinRef) × (driver_at L n ≡ Some p) × IsKnownPin L p × (numbered_pin L p ≡ q)
   driver_number n q h d = go (driver_at L n) refl
     where
-      go : (o : Option PinRef) → driver_at L n ≡ o → (p : PinRef) × (driver_at L n ≡ Some p) × IsKnownPin L p × (pin_named L p ≡ q)
+      go : (o : Option PinRef) → driver_at L n ≡ o → (p : PinRef) × (driver_at L n ≡ Some p) × IsKnownPin L p × (numbered_pin L p ≡ q)
       go None e = absurd (no_driver_named n h e q d)
-      go (Some p) e = let w = driver_named n p h e in (p, e, w.0, d.only (pin_named L p) w.1.drives)
+      go (Some p) e = let w = driver_named n p h e in (p, e, w.0, d.only (numbered_pin L p) w.1.drives)
 
   -- what is found is what `DriverIs` says
   pub driver_is : (n : ℕ) (o : Option PinRef) → n < length L.nets → driver_at L n ≡ o → DriverIs L (net_name L.nets n) o

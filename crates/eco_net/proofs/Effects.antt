@@ -16,7 +16,7 @@ use Rattle.eco_net.specs.declared.rows.NetRow.{NetRow}
 use Rattle.eco_net.specs.declared.rows.CompRow.{CompRow}
 use Rattle.eco_net.specs.declared.rows.TopRow.{TopRow}
 use Rattle.eco_net.specs.Netlist.{Name, name_cmp, Component, Role, pins_of, IsNet, IsPin}
-use Rattle.eco_net.specs.Listing.{Listing, netlist, component, top, pins, net_name, kind_of, rejoined, with_joint, without_joint, with_tie, pin_named, IsKnownPin}
+use Rattle.eco_net.specs.Listing.{Listing, netlist, component, top, pins, net_name, given_kind, rejoined, with_joint, without_joint, with_tie, numbered_pin, IsKnownPin}
 use Rattle.eco_net.specs.Changes.{empty_netlist, with_net, with_comp, with_top, with_tie_net, with_reserved, with_pin_on, with_pin_off, on_net, on_none}
 use Rattle.eco_net.specs.Kept.{IsListing}
 use Rattle.eco_net.proofs.Basics.{get_same, get_other}
@@ -62,14 +62,14 @@ module _ (L : Listing) (is : IsListing L) where
 
   -- a component is added with its unconnected pins, and nothing else changes
   pub comp_is_added : (name : Name) (kind : Given) (place : Option Point) → get (netlist L).comps name ≡ None →
-      netlist (record L { comps = L.comps ++ record { name = name; kind = kind; place = place; joined = replicate (length (pins_of (kind_of kind))) None } ∷ [] })
-      ≡ with_comp (netlist L) name (kind_of kind) place
+      netlist (record L { comps = L.comps ++ record { name = name; kind = kind; place = place; joined = replicate (length (pins_of (given_kind kind))) None } ∷ [] })
+      ≡ with_comp (netlist L) name (given_kind kind) place
   comp_is_added name kind place new = ap (λ cs. record (netlist L) { comps = cs })
       (new_row (λ (r : CompRow). r.name) (component L.nets) L.comps row new
-      ∙ ap (λ (es : List (Name × Name)). insert (netlist L).comps name (record { kind = kind_of kind; place = place; joined = from_entries es })) (joints_none L.nets (pins row) (length (pins row))))
+      ∙ ap (λ (es : List (Name × Name)). insert (netlist L).comps name (record { kind = given_kind kind; place = place; joined = from_entries es })) (joints_none L.nets (pins row) (length (pins row))))
     where
       row : CompRow
-      row = record { name = name; kind = kind; place = place; joined = replicate (length (pins_of (kind_of kind))) None }
+      row = record { name = name; kind = kind; place = place; joined = replicate (length (pins_of (given_kind kind))) None }
 
   -- a top pin is added, and nothing else changes
   pub top_is_added : (name : Name) (dir : Dir) (net : ℕ) → get (netlist L).tops name ≡ None →
@@ -100,14 +100,14 @@ module _ (L : Listing) (is : IsListing L) where
       ∙ sym (get-remove nat_list_cmp_total (component L.nets r).joined p.0 q)))
 
   -- the same in the words of a pin's name
-  pub pin_on_is : (c : CompId) (k n : ℕ) → IsKnownPin L (Pin c k) → netlist (record L { comps = with_joint L.comps c.0 k n }) ≡ with_pin_on (netlist L) (pin_named L (Pin c k)) (net_name L.nets n)
+  pub pin_on_is : (c : CompId) (k n : ℕ) → IsKnownPin L (Pin c k) → netlist (record L { comps = with_joint L.comps c.0 k n }) ≡ with_pin_on (netlist L) (numbered_pin L (Pin c k)) (net_name L.nets n)
   pin_on_is c k n known =
       let w = pin_row L is c.0 k known in
       pin_is_joined c.0 k n w.row w.pin w.is w.at
       ∙ ap (λ o. record (netlist L) { comps = on_net (netlist L).comps w.row.name w.pin.0 (net_name L.nets n) o }) (sym (comp_is L is c.0 w.row w.is))
       ∙ ap (λ p. with_pin_on (netlist L) p (net_name L.nets n)) (sym (pin_name_is L c.0 k w))
 
-  pub pin_off_is : (c : CompId) (k : ℕ) → IsKnownPin L (Pin c k) → netlist (record L { comps = without_joint L.comps c.0 k }) ≡ with_pin_off (netlist L) (pin_named L (Pin c k))
+  pub pin_off_is : (c : CompId) (k : ℕ) → IsKnownPin L (Pin c k) → netlist (record L { comps = without_joint L.comps c.0 k }) ≡ with_pin_off (netlist L) (numbered_pin L (Pin c k))
   pin_off_is c k known =
       let w = pin_row L is c.0 k known in
       pin_is_parted c.0 k w.row w.pin w.is w.at

@@ -7,12 +7,12 @@ use Rattle.std.specs.List.{Contains, IsDistinct}
 use Rattle.std.specs.Option.{unwrap_or}
 use Rattle.std.specs.FinMap.{get}
 use Rattle.eco_common.specs.declared.geometry.Dir.TheVariants.{Input, Output, Inout}
-use Rattle.eco_net.specs.Netlist.{Name, Gate, Boxed, Netlist, Pin, TopPin, CompPin, Computes, IsWhole}
+use Rattle.eco_net.specs.Netlist.{Name, Gate, Boxed, Netlist, Pin, TopPin, CompPin, GateOutput, IsWellFormed}
 use Rattle.eco_net.specs.Drivers.{driven, IsDriver, Computed, IsComputed, IsFree, IsSink, joined_at}
 use Rattle.eco_net.specs.Walks.{ReadsNet, IsLoopFree}
 use Rattle.eco_net.specs.Depth.{IsDepth, Behind}
 use Rattle.eco_net.specs.CutKeys.{is_source_pin, PinKey, NetKey, KeyOf, IsCutKey, CutBits, is_source_at, is_source_top}
-use Rattle.eco_net.specs.Observables.{IsObservable, ObservedTop, ObservedAt, ObservedRole, observed, value_at}
+use Rattle.eco_net.specs.Observables.{IsObservable, ObservedTop, ObservedAt, ObservedRole, observed, pin_value}
 use Rattle.eco_func.specs.Tables.{row}
 use Rattle.eco_net.specs.Valuation.{Valuation, IsValuation, HasOneValuation, table_value, read}
 use Rattle.eco_net.proofs.Lists.{Part, Lists, made, component, driver_by, driven_made, net_made, top_made, comp_made, joined_made, inputs_made, computed_by, free_top, free_box, free_several, EachReads, reads_by, whole_by, EachFits}
@@ -184,7 +184,7 @@ at_register : IsObservable N (CompPin (codes "r1") (codes "D"))
 at_register = subst (λ o. ObservedAt N o (codes "D")) (sym (comp_made lists (codes "r1"))) tt
 
 at_inverter : IsObservable N (CompPin (codes "i1") (codes "Y"))
-at_inverter = subst (λ o. ObservedAt N o (codes "Y")) (sym (comp_made lists (codes "i1"))) (subst (λ n. ObservedRole N (Some (Computes (true ∷ false ∷ []))) n) (sym (joined_made inverter (codes "Y"))) pad_free)
+at_inverter = subst (λ o. ObservedAt N o (codes "Y")) (sym (comp_made lists (codes "i1"))) (subst (λ n. ObservedRole N (Some (GateOutput (true ∷ false ∷ []))) n) (sym (joined_made inverter (codes "Y"))) pad_free)
 
 at_pad : IsObservable N (CompPin (codes "p1") (codes "IO"))
 at_pad = subst (λ o. ObservedAt N o (codes "IO")) (sym (comp_made lists (codes "p1"))) tt
@@ -203,7 +203,7 @@ not_at_gate_input h = subst (λ o. ObservedAt N o (codes "A")) (comp_made lists 
 
 -- an output of a gate on a computed net is none
 not_at_adder : IsObservable N (CompPin (codes "u1") (codes "S")) → ⊥
-not_at_adder h = (subst (λ n. ObservedRole N (Some (Computes (false ∷ true ∷ true ∷ false ∷ []))) n) (joined_made half_adder (codes "S")) (subst (λ o. ObservedAt N o (codes "S")) (comp_made lists (codes "u1")) h)).1 (_, _, sum_computed)
+not_at_adder h = (subst (λ n. ObservedRole N (Some (GateOutput (false ∷ true ∷ true ∷ false ∷ []))) n) (joined_made half_adder (codes "S")) (subst (λ o. ObservedAt N o (codes "S")) (comp_made lists (codes "u1")) h)).1 (_, _, sum_computed)
 
 -- nor is an output of a box
 not_at_output : IsObservable N (CompPin (codes "r1") (codes "Q")) → ⊥
@@ -237,7 +237,7 @@ each_fits = (
   ),
 )
 
-whole : IsWhole N
+whole : IsWellFormed N
 whole = whole_by lists each_fits refl refl
 
 not_computed : EachReads (λ n. IsComputed N n → ⊥) lists.comps
@@ -314,11 +314,11 @@ module _ (cut : CutBits) (v : Valuation) (is : IsValuation N cut v) (x z : Bool)
 
   -- what the register reads
   register_is : observed N v (CompPin (codes "r1") (codes "D")) ≡ table_value (false ∷ true ∷ true ∷ false ∷ []) (x ∷ z ∷ [])
-  register_is = ap (λ o. value_at v o (codes "D")) (comp_made lists (codes "r1")) ∙ ap (read v) (joined_made register (codes "D")) ∙ ap (λ o. unwrap_or o false) sum_is
+  register_is = ap (λ o. pin_value v o (codes "D")) (comp_made lists (codes "r1")) ∙ ap (read v) (joined_made register (codes "D")) ∙ ap (λ o. unwrap_or o false) sum_is
 
   -- the inverter reads 0 on no net, whatever is on pad
   inverter_is : observed N v (CompPin (codes "i1") (codes "Y")) ≡ true
-  inverter_is = ap (λ o. value_at v o (codes "Y")) (comp_made lists (codes "i1")) ∙ ap (λ ins. table_value (true ∷ false ∷ []) (map (read v) ins)) (inputs_made inverter)
+  inverter_is = ap (λ o. pin_value v o (codes "Y")) (comp_made lists (codes "i1")) ∙ ap (λ ins. table_value (true ∷ false ∷ []) (map (read v) ins)) (inputs_made inverter)
 
 both_high : table_value (false ∷ true ∷ true ∷ false ∷ []) (true ∷ true ∷ []) ≡ false
 both_high = refl

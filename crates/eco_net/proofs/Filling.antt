@@ -13,7 +13,7 @@ use Rattle.eco_net.specs.declared.ids.PinRef.{PinRef}
 use Rattle.eco_net.specs.declared.ids.PinRef.TheVariants.{Top, Pin}
 use Rattle.eco_net.specs.Listing.{Listing, pins}
 use Rattle.eco_net.specs.ByNumber.{net_at, is_net, is_on, by_net, tops_to, pins_to, comp_pins, all_pins}
-use Rattle.eco_net.specs.PinLists.{Places, put_on, put_all, sums, list_at, lists, AreEnds}
+use Rattle.eco_net.specs.PinLists.{Places, put_if_on, put_all, sums, list_at, lists, AreEnds}
 use Rattle.eco_net.specs.Kept.{IsListing}
 use Rattle.eco_net.proofs.Basics.{Has, map_agree}
 use Rattle.eco_net.proofs.AllPins.{on_net, below_has, known_has}
@@ -21,16 +21,16 @@ use Rattle.eco_net.proofs.PinNames.{known_net}
 
 -- ---- one pin
 
-put_ends : (P : Places) (o : Option ℕ) (p : PinRef) → length (put_on P o p).ends ≡ length P.ends
+put_ends : (P : Places) (o : Option ℕ) (p : PinRef) → length (put_if_on P o p).ends ≡ length P.ends
 put_ends P None p = refl
 put_ends P (Some m) p = length-set P.ends m (get_or P.ends m 0 + 1)
 
-put_places : (P : Places) (o : Option ℕ) (p : PinRef) → length (put_on P o p).pins ≡ length P.pins
+put_places : (P : Places) (o : Option ℕ) (p : PinRef) → length (put_if_on P o p).pins ≡ length P.pins
 put_places P None p = refl
 put_places P (Some m) p = length-set P.pins (get_or P.ends m 0) p
 
 -- the end of a list moves past the pin that is put on it
-put_end : (P : Places) (o : Option ℕ) (p : PinRef) (n : ℕ) → n < length P.ends → get_or (put_on P o p).ends n 0 ≡ get_or P.ends n 0 + cond (is_net o n) 1 0
+put_end : (P : Places) (o : Option ℕ) (p : PinRef) (n : ℕ) → n < length P.ends → get_or (put_if_on P o p).ends n 0 ≡ get_or P.ends n 0 + cond (is_net o n) 1 0
 put_end P None p n h = omega arith
 put_end P (Some m) p n h = ⊎_elim
     (λ e. subst (λ m. get_or (set P.ends m (get_or P.ends m 0 + 1)) n 0 ≡ get_or P.ends n 0 + cond (is_net (Some m) n) 1 0) e
@@ -39,13 +39,13 @@ put_end P (Some m) p n h = ⊎_elim
     get_or-set_other P.ends m n (get_or P.ends m 0 + 1) 0 a ∙ z ∙ ap (λ b. get_or P.ends n 0 + cond b 1 0) (sym (ne_eqb m n (λ e. a (sym e)))))
     (cases_eq n m)
 
-put_within : (P : Places) (o : Option ℕ) (p : PinRef) (n : ℕ) → get_or (put_on P o p).ends n 0 ≤ get_or P.ends n 0 + 1
+put_within : (P : Places) (o : Option ℕ) (p : PinRef) (n : ℕ) → get_or (put_if_on P o p).ends n 0 ≤ get_or P.ends n 0 + 1
 put_within P o p n = ⊎_elim
     (λ h. go (is_net o n) (put_end P o p n h))
-    (λ h. omega (arith, get_or_past (put_on P o p).ends n 0 (omega (arith, h, put_ends P o p))))
+    (λ h. omega (arith, get_or_past (put_if_on P o p).ends n 0 (omega (arith, h, put_ends P o p))))
     (cases_lt n (length P.ends))
   where
-    go : (b : Bool) → get_or (put_on P o p).ends n 0 ≡ get_or P.ends n 0 + cond b 1 0 → get_or (put_on P o p).ends n 0 ≤ get_or P.ends n 0 + 1
+    go : (b : Bool) → get_or (put_if_on P o p).ends n 0 ≡ get_or P.ends n 0 + cond b 1 0 → get_or (put_if_on P o p).ends n 0 ≤ get_or P.ends n 0 + 1
     go true e = omega (arith, e)
     go false e = omega (arith, e)
 
@@ -62,26 +62,26 @@ module _ (L : Listing) where
 
   pub all_ends : (ps : List PinRef) (P : Places) → length (put_all L P ps).ends ≡ length P.ends
   all_ends [] P = refl
-  all_ends (p ∷ ps) P = all_ends ps (put_on P (net_at L p) p) ∙ put_ends P (net_at L p) p
+  all_ends (p ∷ ps) P = all_ends ps (put_if_on P (net_at L p) p) ∙ put_ends P (net_at L p) p
 
   pub all_places : (ps : List PinRef) (P : Places) → length (put_all L P ps).pins ≡ length P.pins
   all_places [] P = refl
-  all_places (p ∷ ps) P = all_places ps (put_on P (net_at L p) p) ∙ put_places P (net_at L p) p
+  all_places (p ∷ ps) P = all_places ps (put_if_on P (net_at L p) p) ∙ put_places P (net_at L p) p
 
   -- no end moves further than there are pins
   pub all_within : (ps : List PinRef) (P : Places) (n : ℕ) → get_or (put_all L P ps).ends n 0 ≤ get_or P.ends n 0 + length ps
   all_within [] P n = omega arith
-  all_within (p ∷ ps) P n = omega (arith, all_within ps (put_on P (net_at L p) p) n, put_within P (net_at L p) p n)
+  all_within (p ∷ ps) P n = omega (arith, all_within ps (put_if_on P (net_at L p) p) n, put_within P (net_at L p) p n)
 
   pub all_sum : (ps : List PinRef) (P : Places) → AreOn (length P.ends) ps → sum (put_all L P ps).ends ≤ sum P.ends + length ps
   all_sum [] P on = omega arith
   all_sum (p ∷ ps) P on =
-      let P' = put_on P (net_at L p) p in
+      let P' = put_if_on P (net_at L p) p in
       let rest = all_sum ps P' (subst (λ n. AreOn n ps) (sym (put_ends P (net_at L p) p)) (λ q i. on q (inr i))) in
       let one : sum P'.ends ≤ sum P.ends + 1 = go (net_at L p) refl in
       omega (arith, rest, one)
     where
-      go : (o : Option ℕ) → net_at L p ≡ o → sum (put_on P o p).ends ≤ sum P.ends + 1
+      go : (o : Option ℕ) → net_at L p ≡ o → sum (put_if_on P o p).ends ≤ sum P.ends + 1
       go None e = omega arith
       go (Some m) e = omega (arith, sum_by-set (λ x. x) P.ends m (get_or P.ends m 0 + 1) 0 (on p (inl refl) m e))
 
@@ -89,24 +89,24 @@ module _ (L : Listing) where
   count_on n ps = length (filter (is_on L n) ps)
 
   -- the first of them moves the end of its list, and is one of those that its list still gets
-  end_first : (p : PinRef) (ps : List PinRef) (P : Places) (n : ℕ) → n < length P.ends → get_or (put_on P (net_at L p) p).ends n 0 + count_on n ps ≡ get_or P.ends n 0 + count_on n (p ∷ ps)
+  end_first : (p : PinRef) (ps : List PinRef) (P : Places) (n : ℕ) → n < length P.ends → get_or (put_if_on P (net_at L p) p).ends n 0 + count_on n ps ≡ get_or P.ends n 0 + count_on n (p ∷ ps)
   end_first p ps P n h = omega (arith, put_end P (net_at L p) p n h, count_more (is_on L n p) p (filter (is_on L n) ps))
 
-  end_grows : (p : PinRef) (P : Places) (n : ℕ) → n < length P.ends → get_or P.ends n 0 ≤ get_or (put_on P (net_at L p) p).ends n 0
+  end_grows : (p : PinRef) (P : Places) (n : ℕ) → n < length P.ends → get_or P.ends n 0 ≤ get_or (put_if_on P (net_at L p) p).ends n 0
   end_grows p P n h = omega (arith, put_end P (net_at L p) p n h)
 
   -- each list ends after so many pins as it gets
   pub all_end : (ps : List PinRef) (P : Places) (n : ℕ) → n < length P.ends → get_or (put_all L P ps).ends n 0 ≡ get_or P.ends n 0 + count_on n ps
   all_end [] P n h = omega arith
   all_end (p ∷ ps) P n h =
-      all_end ps (put_on P (net_at L p) p) n (omega (arith, h, put_ends P (net_at L p) p)) ∙ end_first p ps P n h
+      all_end ps (put_if_on P (net_at L p) p) n (omega (arith, h, put_ends P (net_at L p) p)) ∙ end_first p ps P n h
 
   -- each list has places of its own for the pins that it still gets
   pub record HasRoom (P : Places) (ps : List PinRef) : Type 0 where
     pub within : (n : ℕ) → n < length P.ends → get_or P.ends n 0 + length (filter (is_on L n) ps) ≤ length P.pins
     pub apart : (m n : ℕ) → m < n → n < length P.ends → get_or P.ends m 0 + length (filter (is_on L m) ps) ≤ get_or P.ends n 0
 
-  room_rest : (p : PinRef) (ps : List PinRef) (P : Places) → HasRoom P (p ∷ ps) → HasRoom (put_on P (net_at L p) p) ps
+  room_rest : (p : PinRef) (ps : List PinRef) (P : Places) → HasRoom P (p ∷ ps) → HasRoom (put_if_on P (net_at L p) p) ps
   room_rest p ps P r = record {
     within = λ n h.
         let h' : n < length P.ends = omega (arith, h, put_ends P (net_at L p) p) in
@@ -120,13 +120,13 @@ module _ (L : Listing) where
   kept : (ps : List PinRef) (P : Places) (j : ℕ) (d : PinRef) → AreOn (length P.ends) ps → ((n : ℕ) → n < length P.ends → (j < get_or P.ends n 0) ⊎ (get_or P.ends n 0 + count_on n ps ≤ j)) → get_or (put_all L P ps).pins j d ≡ get_or P.pins j d
   kept [] P j d on far = refl
   kept (p ∷ ps) P j d on far =
-      kept ps (put_on P (net_at L p) p) j d (subst (λ n. AreOn n ps) (sym (put_ends P (net_at L p) p)) (λ q i. on q (inr i)))
+      kept ps (put_if_on P (net_at L p) p) j d (subst (λ n. AreOn n ps) (sym (put_ends P (net_at L p) p)) (λ q i. on q (inr i)))
       (λ n h.
       let h' : n < length P.ends = omega (arith, h, put_ends P (net_at L p) p) in
       ⊎_elim (λ l. inl (omega (arith, l, end_grows p P n h'))) (λ l. inr (omega (arith, l, end_first p ps P n h'))) (far n h'))
       ∙ go (net_at L p) refl
     where
-      go : (o : Option ℕ) → net_at L p ≡ o → get_or (put_on P o p).pins j d ≡ get_or P.pins j d
+      go : (o : Option ℕ) → net_at L p ≡ o → get_or (put_if_on P o p).pins j d ≡ get_or P.pins j d
       go None e = refl
       go (Some m) e =
           let h = on p (inl refl) m e in
@@ -135,7 +135,7 @@ module _ (L : Listing) where
 
   module _ (p : PinRef) (ps : List PinRef) (P : Places) (on : AreOn (length P.ends) (p ∷ ps)) (r : HasRoom P (p ∷ ps)) (n : ℕ) (h : n < length P.ends) where
     abbrev next : Places
-    next = put_on P (net_at L p) p
+    next = put_if_on P (net_at L p) p
 
     rest_on : AreOn (length next.ends) ps
     rest_on = subst (λ n. AreOn n ps) (sym (put_ends P (net_at L p) p)) (λ q i. on q (inr i))
@@ -159,7 +159,7 @@ module _ (L : Listing) where
     first_placed : (d : PinRef) → is_on L n p ≡ true → get_or (put_all L next ps).pins (get_or P.ends n 0) d ≡ p
     first_placed d e =
         kept ps next (get_or P.ends n 0) d rest_on (λ m g. first_far e m (omega (arith, g, put_ends P (net_at L p) p)))
-        ∙ ap (λ o. get_or (put_on P o p).pins (get_or P.ends n 0) d) (on_net (net_at L p) n e)
+        ∙ ap (λ o. get_or (put_if_on P o p).pins (get_or P.ends n 0) d) (on_net (net_at L p) n e)
         ∙ get_or-set_same P.pins (get_or P.ends n 0) p d (omega (arith, r.within n h, first_count e))
 
     abbrev kept_by : Bool → List PinRef
@@ -181,7 +181,7 @@ module _ (L : Listing) where
   placed [] P on r n k d h l = absurd (omega arith)
   placed (p ∷ ps) P on r n k d h l =
       step_placed p ps P on r n h d
-      (λ j g. placed ps (put_on P (net_at L p) p) (rest_on p ps P on r n h) (room_rest p ps P r) n j d (omega (arith, h, put_ends P (net_at L p) p)) g)
+      (λ j g. placed ps (put_if_on P (net_at L p) p) (rest_on p ps P on r n h) (room_rest p ps P r) n j d (omega (arith, h, put_ends P (net_at L p) p)) g)
       (is_on L n p) refl k l
 
 -- ---- the lists
@@ -221,16 +221,16 @@ module _ (L : Listing) (P Q : Places) (ps : List PinRef) (e : Q ≡ put_all L P 
   pub step_few : (n : ℕ) → get_or Q.ends n 0 ≤ get_or P.ends n 0 + length ps
   step_few n = omega (arith, ap (λ P. get_or P.ends n 0) e, all_within L ps P n)
 
-  pub step_put : (p : PinRef) (o : Option ℕ) (qs : List PinRef) → net_at L p ≡ o → qs ≡ ps ++ p ∷ [] → put_on Q o p ≡ put_all L P qs
+  pub step_put : (p : PinRef) (o : Option ℕ) (qs : List PinRef) → net_at L p ≡ o → qs ≡ ps ++ p ∷ [] → put_if_on Q o p ≡ put_all L P qs
   step_put p o qs f g =
-      ap₂ (λ P o. put_on P o p) e (sym f)
-      ∙ sym (fold_push (λ P p. put_on P (net_at L p) p) P ps p)
+      ap₂ (λ P o. put_if_on P o p) e (sym f)
+      ∙ sym (fold_push (λ P p. put_if_on P (net_at L p) p) P ps p)
       ∙ ap (put_all L P) (sym g)
 
   pub step_more : (rs qs : List PinRef) → qs ≡ ps ++ rs → put_all L Q rs ≡ put_all L P qs
   step_more rs qs g =
       ap (λ P. put_all L P rs) e
-      ∙ sym (fold-append (λ P p. put_on P (net_at L p) p) P ps rs)
+      ∙ sym (fold-append (λ P p. put_if_on P (net_at L p) p) P ps rs)
       ∙ ap (put_all L P) (sym g)
 
 -- ---- both rounds

@@ -14,13 +14,13 @@ use Rattle.eco_net.specs.declared.rows.CompRow.{CompRow}
 use Rattle.eco_net.specs.declared.ids.CompId.{CompId}
 use Rattle.eco_net.specs.declared.ids.PinRef.{PinRef}
 use Rattle.eco_net.specs.declared.ids.PinRef.TheVariants.{Top, Pin}
-use Rattle.eco_net.specs.Netlist.{Name, TopPin, CompPin, Role, Reads as Read, Computes, Outside, pins_of, role_of, inputs_of, input_names}
+use Rattle.eco_net.specs.Netlist.{Name, TopPin, CompPin, Role, GateInput as Read, GateOutput, BoxedPin, pins_of, role_of, input_nets, input_names}
 use Rattle.eco_net.specs.Drivers.{is_driving, IsDriver, Computed, IsComputed}
 use Rattle.eco_net.specs.Walks.{ReadsNet}
-use Rattle.eco_net.specs.Listing.{Listing, netlist, component, pins, kind_of, net_name, pin_named, IsKnownPin}
+use Rattle.eco_net.specs.Listing.{Listing, netlist, component, pins, given_kind, net_name, numbered_pin, IsKnownPin}
 use Rattle.eco_net.specs.Kept.{IsRow, IsListing}
 use Rattle.eco_net.specs.ByNumber.{role_at, driver_at}
-use Rattle.eco_net.specs.Gates.{GatePin, by_kind, gate_at, gate_pin, unsupplied, computed_by, input_count, inputs_in, inputs_at, Reads}
+use Rattle.eco_net.specs.Gates.{GatePin, by_kind, gate_at, gate_pin, unsupplied, computed_by, input_count, gate_inputs, inputs_at, FeedsNet}
 use Rattle.eco_net.proofs.Basics.{Has, same_Some, not_None, has_from_contains, contains_from_has, has_map, has_of_map}
 use Rattle.eco_net.proofs.Solved.{one_table}
 use Rattle.eco_net.proofs.AllPins.{split_has}
@@ -91,23 +91,23 @@ computed_known L n g e = let w = gate_is L n g e in slice_get_within L.nets n w.
 
 -- ---- roles
 
-no_outside : {d : Dir} → Read ≡ Outside d → ⊥
+no_outside : {d : Dir} → Read ≡ BoxedPin d → ⊥
 no_outside e = cc
 
-no_outside_out : {t : List Bool} {d : Dir} → Computes t ≡ Outside d → ⊥
+no_outside_out : {t : List Bool} {d : Dir} → GateOutput t ≡ BoxedPin d → ⊥
 no_outside_out e = cc
 
-pub gate_inside : (m : MasterTables) (p : Name × Role) → Has (pins_of (kind_of (Gate m))) p → (d : Dir) → p.1 ≡ Outside d → ⊥
+pub gate_inside : (m : MasterTables) (p : Name × Role) → Has (pins_of (given_kind (Gate m))) p → (d : Dir) → p.1 ≡ BoxedPin d → ⊥
 gate_inside m p h d e = ⊎_elim
     (λ i. let w = has_of_map {B = Name × Role} (λ p. (p, Read)) m.inputs p i in no_outside (ap (λ (x : Name × Role). x.1) w.2 ∙ e))
-    (λ i. let w = has_of_map {B = Name × Role} (λ o. (o.0, Computes o.1)) _ p i in no_outside_out (ap (λ (x : Name × Role). x.1) w.2 ∙ e))
+    (λ i. let w = has_of_map {B = Name × Role} (λ o. (o.0, GateOutput o.1)) _ p i in no_outside_out (ap (λ (x : Name × Role). x.1) w.2 ∙ e))
     (split_has (map {B = Name × Role} (λ p. (p, Read)) m.inputs) _ p h)
 
-not_computing : {t : List Bool} {d : Dir} → Outside d ≡ Computes t → ⊥
+not_computing : {t : List Bool} {d : Dir} → BoxedPin d ≡ GateOutput t → ⊥
 not_computing e = cc
 
-pub box_outside : (ps : List BoxPin) (p : Name × Role) → Has (pins_of (kind_of (Boxed ps))) p → (t : List Bool) → p.1 ≡ Computes t → ⊥
-box_outside ps p h t e = let w = has_of_map {B = Name × Role} (λ p. (p.0, Outside p.1)) _ p h in not_computing (ap (λ (x : Name × Role). x.1) w.2 ∙ e)
+pub box_outside : (ps : List BoxPin) (p : Name × Role) → Has (pins_of (given_kind (Boxed ps))) p → (t : List Bool) → p.1 ≡ GateOutput t → ⊥
+box_outside ps p h t e = let w = has_of_map {B = Name × Role} (λ p. (p.0, BoxedPin p.1)) _ p h in not_computing (ap (λ (x : Name × Role). x.1) w.2 ∙ e)
 
 pub has_at : {A : Type 0} (xs : List A) (i : ℕ) (x : A) → slice_get xs i ≡ Some x → Has xs x
 has_at [] i x e = absurd (not_None (sym e))
@@ -119,13 +119,13 @@ at_has [] x h = absurd h
 at_has (y ∷ xs) x (inl e) = (0, ap Some e)
 at_has (y ∷ xs) x (inr h) = let r = at_has xs x h in (suc r.0, r.1)
 
-driving_table : (m : MasterTables) (p : Name × Role) → Has (pins_of (kind_of (Gate m))) p → is_driving (Some p.1) ≡ true → (t : List Bool) × (p.1 ≡ Computes t)
+driving_table : (m : MasterTables) (p : Name × Role) → Has (pins_of (given_kind (Gate m))) p → is_driving (Some p.1) ≡ true → (t : List Bool) × (p.1 ≡ GateOutput t)
 driving_table m p h e = go p.1 refl e
   where
-    go : (r : Role) → p.1 ≡ r → is_driving (Some r) ≡ true → (t : List Bool) × (p.1 ≡ Computes t)
+    go : (r : Role) → p.1 ≡ r → is_driving (Some r) ≡ true → (t : List Bool) × (p.1 ≡ GateOutput t)
     go Read f e = absurd (true≢false (sym e))
-    go (Computes t) f e = (t, f)
-    go (Outside d) f e = absurd (gate_inside m p h d f)
+    go (GateOutput t) f e = (t, f)
+    go (BoxedPin d) f e = absurd (gate_inside m p h d f)
 
 module _ (L : Listing) (is : IsListing L) where
   abbrev pub nm : ℕ → Name
@@ -133,18 +133,18 @@ module _ (L : Listing) (is : IsListing L) where
 
   -- ---- the nets of a gate's inputs
 
-  pub inputs_named : (c : ℕ) (r : CompRow) (m : MasterTables) → slice_get L.comps c ≡ Some r → r.kind ≡ Gate m → inputs_of (component L.nets r) ≡ map (option_map nm) (inputs_at L c)
+  pub inputs_named : (c : ℕ) (r : CompRow) (m : MasterTables) → slice_get L.comps c ≡ Some r → r.kind ≡ Gate m → input_nets (component L.nets r) ≡ map (option_map nm) (inputs_at L c)
   inputs_named c r m e f =
-      ap (λ k. map (get (component L.nets r).joined) (input_names (kind_of k))) f
+      ap (λ k. map (get (component L.nets r).joined) (input_names (given_kind k))) f
       ∙ same_lists _ _ lengths each
-      ∙ sym (ap (λ o. map (option_map nm) (inputs_in o)) e ∙ ap (λ k. map (option_map nm) (take (input_count k) r.joined)) f)
+      ∙ sym (ap (λ o. map (option_map nm) (gate_inputs o)) e ∙ ap (λ k. map (option_map nm) (take (input_count k) r.joined)) f)
     where
       row : IsRow (length L.nets) r
       row = is.rows c r e
 
       wide : length m.inputs ≤ length r.joined
       wide =
-          let a : length (pins r) ≡ length m.inputs + length m.outputs = ap (λ k. length (pins_of (kind_of k))) f ∙ gate_length m in
+          let a : length (pins r) ≡ length m.inputs + length m.outputs = ap (λ k. length (pins_of (given_kind k))) f ∙ gate_length m in
           omega (arith, a, row.each_pin)
 
       lengths : length (map (get (component L.nets r).joined) m.inputs) ≡ length (map (option_map nm) (take (length m.inputs) r.joined))
@@ -157,7 +157,7 @@ module _ (L : Listing) (is : IsListing L) where
           let g : k < length m.inputs = omega (arith, h, length-map m.inputs (get (component L.nets r).joined)) in
           let j = at_place r.joined k (omega (arith, g, wide)) in
           let p = get_or m.inputs k [] in
-          let at : slice_get (pins r) k ≡ Some (p, Read) = ap (λ x. slice_get (pins_of (kind_of x)) k) f ∙ input_at m m.inputs m.outputs refl refl k [] g in
+          let at : slice_get (pins r) k ≡ Some (p, Read) = ap (λ x. slice_get (pins_of (given_kind x)) k) f ∙ input_at m m.inputs m.outputs refl refl k [] g in
           let t : k < length (take (length m.inputs) r.joined) = omega (arith, g, length-take-le (length m.inputs) r.joined wide) in
           get_or-map (get (component L.nets r).joined) m.inputs k [] d g
           ∙ joined_is L is c r k (p, Read) j.0 e at j.1
@@ -167,7 +167,7 @@ module _ (L : Listing) (is : IsListing L) where
   -- ---- computed nets
 
   -- a net that is found computed is computed
-  pub computed_named : (n : ℕ) (g : GatePin) → computed_by L n ≡ Some g → (table : List Bool) × Computed (netlist L) (nm n) table (map (option_map nm) (inputs_at L g.0.0)) × (role_at (slice_get L.comps g.0.0) g.1 ≡ Some (Computes table))
+  pub computed_named : (n : ℕ) (g : GatePin) → computed_by L n ≡ Some g → (table : List Bool) × Computed (netlist L) (nm n) table (map (option_map nm) (inputs_at L g.0.0)) × (role_at (slice_get L.comps g.0.0) g.1 ≡ Some (GateOutput table))
   computed_named n g e =
       let w = gate_is L n g e in
       let h = slice_get_within L.nets n w.row w.net in
@@ -175,7 +175,7 @@ module _ (L : Listing) (is : IsListing L) where
       let q = pin_row L is g.0.0 g.1 d.0 in
       let kind : q.row.kind ≡ Gate w.master = ap (λ (r : CompRow). r.kind) (same_Some (sym q.is ∙ w.at)) ∙ w.kind in
       let role : is_driving (Some q.pin.1) ≡ true = ap is_driving (sym (pin_role_is L g.0.0 g.1 q)) ∙ driver_drives L is n (Pin g.0 g.1) w.driver in
-      let t = driving_table w.master q.pin (subst (λ k. Has (pins_of (kind_of k)) q.pin) kind (has_at (pins q.row) g.1 q.pin q.at)) role in (
+      let t = driving_table w.master q.pin (subst (λ k. Has (pins_of (given_kind k)) q.pin) kind (has_at (pins q.row) g.1 q.pin q.at)) role in (
         t.0,
         record {
           unsupplied = ap (get (netlist L).nets) (net_name_is L is n w.row w.net) ∙ net_is L is n w.row w.net ∙ ap Some w.free;
@@ -203,20 +203,20 @@ module _ (L : Listing) (is : IsListing L) where
       free : r.0.supply ≡ None
       free = same_Some (sym (ap (get (netlist L).nets) (net_name_is L is n r.0 r.1) ∙ net_is L is n r.0 r.1) ∙ m.unsupplied)
 
-      d : (p : PinRef) × (driver_at L n ≡ Some p) × IsKnownPin L p × (pin_named L p ≡ CompPin m.comp m.pin)
+      d : (p : PinRef) × (driver_at L n ≡ Some p) × IsKnownPin L p × (numbered_pin L p ≡ CompPin m.comp m.pin)
       d = driver_number L is n (CompPin m.comp m.pin) h m.driver
 
-      by_row : (c : CompId) (k : ℕ) → driver_at L n ≡ Some (Pin c k) → (q : PinRow L c.0 k) → q.pin.1 ≡ Computes t → (x : Kind) → q.row.kind ≡ x → (g : GatePin) × (computed_by L n ≡ Some g)
+      by_row : (c : CompId) (k : ℕ) → driver_at L n ≡ Some (Pin c k) → (q : PinRow L c.0 k) → q.pin.1 ≡ GateOutput t → (x : Kind) → q.row.kind ≡ x → (g : GatePin) × (computed_by L n ≡ Some g)
       by_row c k e q role (Gate ms) f = ((c, k), is_gate L n (c, k) (record { row = r.0; net = r.1; free = free; driver = e; comp = q.row; at = q.is; master = ms; kind = f }))
-      by_row c k e q role (Boxed ps) f = absurd (box_outside ps q.pin (subst (λ x. Has (pins_of (kind_of x)) q.pin) f (has_at (pins q.row) k q.pin q.at)) t role)
+      by_row c k e q role (Boxed ps) f = absurd (box_outside ps q.pin (subst (λ x. Has (pins_of (given_kind x)) q.pin) f (has_at (pins q.row) k q.pin q.at)) t role)
 
-      by_pin : (p : PinRef) → driver_at L n ≡ Some p → IsKnownPin L p → pin_named L p ≡ CompPin m.comp m.pin → (g : GatePin) × (computed_by L n ≡ Some g)
+      by_pin : (p : PinRef) → driver_at L n ≡ Some p → IsKnownPin L p → numbered_pin L p ≡ CompPin m.comp m.pin → (g : GatePin) × (computed_by L n ≡ Some g)
       by_pin (Top x) e known named = absurd (top_or_comp named)
       by_pin (Pin c k) e known named =
           let q = pin_row L is c.0 k known in
           let s : CompPin q.row.name q.pin.0 ≡ CompPin m.comp m.pin = sym (pin_name_is L c.0 k q) ∙ named in
           let gate : component L.nets q.row ≡ m.gate = same_Some (sym (comp_is L is c.0 q.row q.is) ∙ ap (get (netlist L).comps) (same_comp s) ∙ m.is) in
-          let role : q.pin.1 ≡ Computes t = same_Some (sym (role_is L is c.0 q.row k q.pin q.is q.at) ∙ ap₂ role_of gate (same_place s) ∙ m.at) in
+          let role : q.pin.1 ≡ GateOutput t = same_Some (sym (role_is L is c.0 q.row k q.pin q.is q.at) ∙ ap₂ role_of gate (same_place s) ∙ m.at) in
           by_row c k e q role q.row.kind refl
 
   -- the pin that computes a net is a known one
@@ -231,7 +231,7 @@ module _ (L : Listing) (is : IsListing L) where
 
   -- ---- what the driver of a computed net reads
 
-  pub reads_named : (a b : ℕ) → Reads L a b → ReadsNet (netlist L) (nm a) (nm b)
+  pub reads_named : (a b : ℕ) → FeedsNet L a b → ReadsNet (netlist L) (nm a) (nm b)
   reads_named a b w =
       let t = computed_named b w.gate w.to in
       record {
@@ -252,7 +252,7 @@ module _ (L : Listing) (is : IsListing L) where
   some_name None q e = absurd (not_None (sym e))
   some_name (Some i) q e = (i, refl, same_Some e)
 
-  pub named_reads : (a b : ℕ) → a < length L.nets → b < length L.nets → ReadsNet (netlist L) (nm a) (nm b) → Reads L a b
+  pub named_reads : (a b : ℕ) → a < length L.nets → b < length L.nets → ReadsNet (netlist L) (nm a) (nm b) → FeedsNet L a b
   named_reads a b h k w =
       let from = named_computed a h w.from.0 w.from.1 w.from.2 in
       let to = named_computed b k w.table w.inputs w.to in
@@ -263,7 +263,7 @@ module _ (L : Listing) (is : IsListing L) where
       let g = gate_is L b to.0 to.1 in
       let p = at_has (inputs_at L to.0.0.0) (Some i.0) (subst (λ y. Has (inputs_at L to.0.0.0) y) i.1 x.1) in
       let row : IsRow (length L.nets) g.comp = is.rows to.0.0.0 g.comp g.at in
-      let known : i.0 < length L.nets = row.known p.0 i.0 (taken (input_count g.comp.kind) g.comp.joined p.0 (Some i.0) (sym (ap (λ o. slice_get (inputs_in o) p.0) g.at) ∙ p.1)) in
+      let known : i.0 < length L.nets = row.known p.0 i.0 (taken (input_count g.comp.kind) g.comp.joined p.0 (Some i.0) (sym (ap (λ o. slice_get (gate_inputs o) p.0) g.at) ∙ p.1)) in
       let here : i.0 ≡ a = same_net L is i.0 a known h i.2 in
       record {
         gate = to.0;

@@ -9,9 +9,9 @@ use Rattle.std.proofs.lemmas.List.FromFn.{length-map-range_with_len, get_or-map-
 use Rattle.eco_func.specs.Tables.{TruthTable, at, row, look}
 use Rattle.eco_net.specs.declared.kind.Kind.{Kind}
 use Rattle.eco_net.specs.declared.kind.Kind.TheVariants.{Gate, Boxed}
-use Rattle.eco_net.specs.Netlist.{Name, Role, Reads, Computes, pins_of, HasRows}
+use Rattle.eco_net.specs.Netlist.{Name, Role, GateInput, GateOutput, pins_of, HasRows}
 use Rattle.eco_net.specs.Valuation.{table_value}
-use Rattle.eco_net.specs.Listing.{Listing, bits_of, kind_of}
+use Rattle.eco_net.specs.Listing.{Listing, bits_of, given_kind}
 use Rattle.eco_net.specs.ByNumber.{role_at}
 use Rattle.eco_net.specs.Gates.{input_count, inputs_at}
 use Rattle.eco_net.specs.ValuesOf.{bit_of, by_role, computes}
@@ -38,31 +38,31 @@ one_power a b e = ⊎_elim
     (⊎_elim (λ h. absurd (omega (arith, e, pow_below a b h))) (λ h. absurd (omega (arith, e, pow_below b a h))))
     (cases_order a b)
 
-same_rows : {t u : List Bool} → Computes t ≡ Computes u → t ≡ u
+same_rows : {t u : List Bool} → GateOutput t ≡ GateOutput u → t ≡ u
 same_rows e = cc
 
-no_table : {t : List Bool} → Reads ≡ Computes t → ⊥
+no_table : {t : List Bool} → GateInput ≡ GateOutput t → ⊥
 no_table e = cc
 
-some_pin : (k : Kind) (j : ℕ) (r : Role) → option_map (λ p. p.1) (slice_get (pins_of (kind_of k)) j) ≡ Some r → (p : Name × Role) × Has (pins_of (kind_of k)) p × (p.1 ≡ r)
-some_pin k j r e = go (slice_get (pins_of (kind_of k)) j) refl e
+some_pin : (k : Kind) (j : ℕ) (r : Role) → option_map (λ p. p.1) (slice_get (pins_of (given_kind k)) j) ≡ Some r → (p : Name × Role) × Has (pins_of (given_kind k)) p × (p.1 ≡ r)
+some_pin k j r e = go (slice_get (pins_of (given_kind k)) j) refl e
   where
-    go : (o : Option (Name × Role)) → slice_get (pins_of (kind_of k)) j ≡ o → option_map (λ p. p.1) o ≡ Some r → (p : Name × Role) × Has (pins_of (kind_of k)) p × (p.1 ≡ r)
+    go : (o : Option (Name × Role)) → slice_get (pins_of (given_kind k)) j ≡ o → option_map (λ p. p.1) o ≡ Some r → (p : Name × Role) × Has (pins_of (given_kind k)) p × (p.1 ≡ r)
     go None f e = absurd (not_None (sym e))
-    go (Some p) f e = (p, has_at (pins_of (kind_of k)) j p f, same_Some e)
+    go (Some p) f e = (p, has_at (pins_of (given_kind k)) j p f, same_Some e)
 
 -- a gate's table is over all its inputs
-pub table_inputs : (k : Kind) (j : ℕ) (t : TruthTable) → HasRows (kind_of k) → option_map (λ p. p.1) (slice_get (pins_of (kind_of k)) j) ≡ Some (Computes (bits_of t)) → t.inputs ≡ input_count k
-table_inputs (Boxed ps) j t h e = let w = some_pin (Boxed ps) j (Computes (bits_of t)) e in absurd (box_outside ps w.0 w.1 (bits_of t) w.2)
+pub table_inputs : (k : Kind) (j : ℕ) (t : TruthTable) → HasRows (given_kind k) → option_map (λ p. p.1) (slice_get (pins_of (given_kind k)) j) ≡ Some (GateOutput (bits_of t)) → t.inputs ≡ input_count k
+table_inputs (Boxed ps) j t h e = let w = some_pin (Boxed ps) j (GateOutput (bits_of t)) e in absurd (box_outside ps w.0 w.1 (bits_of t) w.2)
 table_inputs (Gate m) j t h e =
-    let w = some_pin (Gate m) j (Computes (bits_of t)) e in
+    let w = some_pin (Gate m) j (GateOutput (bits_of t)) e in
     ⊎_elim
-    (λ i. let x = has_of_map {B = Name × Role} (λ p. (p, Reads)) m.inputs w.0 i in absurd (no_table (ap (λ (p : Name × Role). p.1) x.2 ∙ w.2)))
+    (λ i. let x = has_of_map {B = Name × Role} (λ p. (p, GateInput)) m.inputs w.0 i in absurd (no_table (ap (λ (p : Name × Role). p.1) x.2 ∙ w.2)))
     (λ i.
-    let x = has_of_map {B = Name × Role} (λ o. (o.0, Computes o.1)) _ w.0 i in
+    let x = has_of_map {B = Name × Role} (λ o. (o.0, GateOutput o.1)) _ w.0 i in
     let same : x.0.1 ≡ bits_of t = same_rows (ap (λ (p : Name × Role). p.1) x.2 ∙ w.2) in
     one_power t.inputs (length m.inputs) (sym (length-map-range_with_len (at t) 0 (2 ^ t.inputs)) ∙ ap length (sym same) ∙ h x.0 (contains_from_has _ x.0 x.1)))
-    (split_has (map {B = Name × Role} (λ p. (p, Reads)) m.inputs) _ w.0 w.1)
+    (split_has (map {B = Name × Role} (λ p. (p, GateInput)) m.inputs) _ w.0 w.1)
 
 -- ---- what a gate's output computes
 

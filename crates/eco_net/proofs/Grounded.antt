@@ -3,7 +3,7 @@ use Rattle.std.proofs.Common.{◌≡◌, ℕ, zero, suc, ◌<◌, ◌≤◌, Lis
 use Rattle.std.specs.FinMap.{keys}
 use Rattle.eco_net.specs.Netlist.{Name, Netlist}
 use Rattle.eco_net.specs.Drivers.{IsComputed}
-use Rattle.eco_net.specs.Walks.{ReadsNet, Walk, IsLoopFree}
+use Rattle.eco_net.specs.Walks.{ReadsNet, NetWalk, IsLoopFree}
 use Rattle.eco_net.proofs.Basics.{Has, same_name, has_key}
 
 pub data Grounded (N : Netlist) : Name → Type 0 where
@@ -35,13 +35,13 @@ stays n (x ∷ ms) m h = elim (same_name x n) as (λ d. (n ≡ m) ⊎ Has (⊎_e
 ]
 
 -- a walk goes on from a net before it
-pub further : (N : Netlist) (a n m : Name) (k : ℕ) → ReadsNet N a n → Walk N n m k → Walk N a m (suc k)
+pub further : (N : Netlist) (a n m : Name) (k : ℕ) → ReadsNet N a n → NetWalk N n m k → NetWalk N a m (suc k)
 further N a n m zero r w = (a, refl, subst (λ x. ReadsNet N a x) w r)
 further N a n m (suc k) r w = (w.0, further N a n w.0 k r w.1, w.2)
 
 -- the nets that are left, or from which n's driver was reached
 abbrev Covers : Netlist → List Name → Name → Type 0
-Covers N left n = (m : Name) → IsComputed N m → Has left m ⊎ ((k : ℕ) × Walk N n m (suc k))
+Covers N left n = (m : Name) → IsComputed N m → Has left m ⊎ ((k : ℕ) × NetWalk N n m (suc k))
 
 -- n is among the nets that are left, since it does not lead to itself
 still_left : (N : Netlist) → IsLoopFree N → (left : List Name) (n : Name) → Covers N left n → IsComputed N n → Has left n

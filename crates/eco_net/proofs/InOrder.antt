@@ -6,8 +6,8 @@ use Rattle.std.proofs.lemmas.Option.{slice_get_within}
 use Rattle.std.proofs.lemmas.Map.Steps.{length-le_from_distinct_below}
 use Rattle.std.proofs.lemmas.Map.Views.{Contains-from_any}
 use Rattle.eco_net.specs.Listing.{Listing}
-use Rattle.eco_net.specs.Gates.{GatePin, computed_by, inputs_at, Reads}
-use Rattle.eco_net.specs.Search.{Settled, IsOrder}
+use Rattle.eco_net.specs.Gates.{GatePin, computed_by, inputs_at, FeedsNet}
+use Rattle.eco_net.specs.Search.{AreSettled, IsEvaluationOrder}
 use Rattle.eco_net.proofs.Basics.{Has, same_Some, not_None, contains_from_has, has_from_contains}
 use Rattle.eco_net.proofs.GateNames.{has_at, at_has, computed_known}
 use Rattle.eco_net.proofs.Searching.{none_of}
@@ -54,19 +54,19 @@ ByInputs {X} L value = (xs ys : List X) (g : GatePin) → ((a : ℕ) → Has (in
 
 module _ (L : Listing) where
   -- what a net's driver reads stands before it
-  settled_at : (before ns : List ℕ) (k n a : ℕ) → Settled L before ns → slice_get ns k ≡ Some n → Reads L a n → Has before a ⊎ Earlier ns k a
+  settled_at : (before ns : List ℕ) (k n a : ℕ) → AreSettled L before ns → slice_get ns k ≡ Some n → FeedsNet L a n → Has before a ⊎ Earlier ns k a
   settled_at before [] k n a s e r = absurd (not_None (sym e))
-  settled_at before (m ∷ ns) zero n a s e r = inl (s.0 a (subst (Reads L a) (sym (same_Some e)) r))
+  settled_at before (m ∷ ns) zero n a s e r = inl (s.0 a (subst (FeedsNet L a) (sym (same_Some e)) r))
   settled_at before (m ∷ ns) (suc k) n a s e r = ⊎_elim
       (⊎_elim (λ f. inr (0, omega arith, ap Some f)) (λ h. inl h))
       (λ f. inr (earlier_rest m ns k a f))
       (settled_at (m ∷ before) ns k n a s.1 e r)
 
-  module _ (order : List ℕ) (is : IsOrder L order) where
+  module _ (order : List ℕ) (is : IsEvaluationOrder L order) where
     -- a net that is read by a driver up to this place isn't the net at this place
     apart_from : (i k n m a : ℕ) (g : GatePin) (s : GatePin) → k ≤ i → slice_get order i ≡ Some n → computed_by L n ≡ Some s → slice_get order k ≡ Some m → computed_by L m ≡ Some g → Has (inputs_at L g.0.0) (Some a) → a ≢ n
     apart_from i k n m a g s h e from f to r same =
-        let reads : Reads L n m = record { gate = g; to = to; reads = contains_from_has _ _ (subst (λ x. Has (inputs_at L g.0.0) (Some x)) same r); source = s; from = from } in
+        let reads : FeedsNet L n m = record { gate = g; to = to; reads = contains_from_has _ _ (subst (λ x. Has (inputs_at L g.0.0) (Some x)) same r); source = s; from = from } in
         ⊎_elim
         (λ z. absurd z)
         (λ j. let z = one_place order i j.0 n is.distinct e j.2 in absurd (omega (arith, z, h, j.1)))

@@ -9,7 +9,7 @@ use Rattle.std.specs.FinMap.{get, insert, from_entries, find, get-from_entries, 
 use Rattle.std.proofs.lemmas.Map.Entries.{lookup-filter-keys}
 use Rattle.std.proofs.lemmas.Map.Lookups.{exact_bytes}
 use Rattle.eco_net.specs.Netlist.{Name, name_cmp}
-use Rattle.eco_net.specs.Index.{is_short, short_of, by_bytes, placed}
+use Rattle.eco_net.specs.Index.{is_short, short_of, by_bytes, placed_names}
 use Rattle.eco_net.proofs.Basics.{same_Some, not_None}
 
 -- whether a key has these bytes
@@ -39,7 +39,7 @@ at_last q (e ∷ es) fs none = past (bytes_eq q e.0) e.1 (at q es) (at q (es ++ 
 at_kept : (q : Name) (p : Name → Bool) (es : List (Name × ℕ)) → at q (filter (λ e. p e.0) es) ≡ cond (p q) (at q es) None
 at_kept q p es = lookup-filter-keys (bytes_eq q) p (p q) (λ k same. ap p (sym (same_text q k (sym same)))) es
 
-at_placed : (b : Bool) (q : Name) (shorts longs : List (Name × ℕ)) → is_short q ≡ b → at q (placed shorts longs) ≡ found b q shorts longs
+at_placed : (b : Bool) (q : Name) (shorts longs : List (Name × ℕ)) → is_short q ≡ b → at q (placed_names shorts longs) ≡ found b q shorts longs
 at_placed true q shorts longs e =
     at_first q _ _ (at_kept q (λ n. not (is_short n)) longs ∙ ap (λ b. cond (not b) (at q longs) None) e)
     ∙ at_kept q is_short shorts
@@ -53,8 +53,8 @@ found_in : (es : List (Name × ℕ)) (q : Name) → find name_cmp q es ≡ at q 
 found_in [] q = refl
 found_in (e ∷ es) q = λ i. cond (sym (texts_ties q e.0) i) (Some e.1) (found_in es q i)
 
-pub place_found : (shorts longs : List (Name × ℕ)) (q : Name) (b : Bool) → is_short q ≡ b → get (from_entries {R = name_cmp} (placed shorts longs)) q ≡ found b q shorts longs
-place_found shorts longs q b e = get-from_entries nat_list_cmp_total (placed shorts longs) q ∙ found_in (placed shorts longs) q ∙ at_placed b q shorts longs e
+pub place_found : (shorts longs : List (Name × ℕ)) (q : Name) (b : Bool) → is_short q ≡ b → get (from_entries {R = name_cmp} (placed_names shorts longs)) q ≡ found b q shorts longs
+place_found shorts longs q b e = get-from_entries nat_list_cmp_total (placed_names shorts longs) q ∙ found_in (placed_names shorts longs) q ∙ at_placed b q shorts longs e
 
 -- entries of texts have at a name what a map of texts has at its bytes
 pub text_found : {Z : Type 0} (q : Name) (es : List (Vec ℕ Z × ℕ)) → at q (by_bytes es) ≡ lookup (λ k. bytes_eq q k.items) es
@@ -95,12 +95,12 @@ pub text_given : {Z : Type 0} (ds es : List (Vec ℕ Z × ℕ)) (k : Name) (v : 
 text_given ds es k v here rest q = text_found q es ∙ text_after ds es k v here rest q _ refl ∙ ap (cond (bytes_eq k q) (Some v)) (sym (text_found q ds))
 
 -- an index whose place at k is v, and whose other places are what they were
-given : (ss ts ls ms : List (Name × ℕ)) (k : Name) (v : ℕ) → ((q : Name) → found (is_short q) q ts ms ≡ cond (bytes_eq k q) (Some v) (found (is_short q) q ss ls)) → from_entries {R = name_cmp} (placed ts ms) ≡ insert (from_entries (placed ss ls)) k v
+given : (ss ts ls ms : List (Name × ℕ)) (k : Name) (v : ℕ) → ((q : Name) → found (is_short q) q ts ms ≡ cond (bytes_eq k q) (Some v) (found (is_short q) q ss ls)) → from_entries {R = name_cmp} (placed_names ts ms) ≡ insert (from_entries (placed_names ss ls)) k v
 given ss ts ls ms k v h = same_map nat_list_cmp_total exact_bytes _ _ (λ q.
     place_found ts ms q _ refl
     ∙ h q
     ∙ ap (λ b. cond b (Some v) (found (is_short q) q ss ls)) (nat_list_eq_equiv.symm k q ∙ texts_ties q k)
-    ∙ sym (get-insert nat_list_cmp_total (from_entries (placed ss ls)) k v q ∙ ap (cond (eq_by_cmp name_cmp q k) (Some v)) (place_found ss ls q _ refl)))
+    ∙ sym (get-insert nat_list_cmp_total (from_entries (placed_names ss ls)) k v q ∙ ap (cond (eq_by_cmp name_cmp q k) (Some v)) (place_found ss ls q _ refl)))
 
 same_side : (k q : Name) (b same : Bool) → is_short k ≡ b → bytes_eq k q ≡ same → is_short q ≡ not b → same ≡ false
 same_side k q b false side same other = refl
@@ -110,14 +110,14 @@ same_side k q b true side same other = absurd (both_sides b (sym side ∙ ap is_
     both_sides true h = absurd cc
     both_sides false h = absurd cc
 
-pub short_given : (ss ts ls : List (Name × ℕ)) (k : Name) (v : ℕ) → is_short k ≡ true → IsGiven k v ss ts → from_entries {R = name_cmp} (placed ts ls) ≡ insert (from_entries (placed ss ls)) k v
+pub short_given : (ss ts ls : List (Name × ℕ)) (k : Name) (v : ℕ) → is_short k ≡ true → IsGiven k v ss ts → from_entries {R = name_cmp} (placed_names ts ls) ≡ insert (from_entries (placed_names ss ls)) k v
 short_given ss ts ls k v side h = given ss ts ls ls k v (λ q. go q (is_short q) (bytes_eq k q) (same_side k q true (bytes_eq k q) side refl) (h q))
   where
     go : (q : Name) (short same : Bool) → (short ≡ false → same ≡ false) → at q ts ≡ cond same (Some v) (at q ss) → found short q ts ls ≡ cond same (Some v) (found short q ss ls)
     go q true same apart given = given
     go q false same apart given = ap (λ b. cond b (Some v) (at q ls)) (sym (apart refl))
 
-pub long_given : (ss ls ms : List (Name × ℕ)) (k : Name) (v : ℕ) → is_short k ≡ false → IsGiven k v ls ms → from_entries {R = name_cmp} (placed ss ms) ≡ insert (from_entries (placed ss ls)) k v
+pub long_given : (ss ls ms : List (Name × ℕ)) (k : Name) (v : ℕ) → is_short k ≡ false → IsGiven k v ls ms → from_entries {R = name_cmp} (placed_names ss ms) ≡ insert (from_entries (placed_names ss ls)) k v
 long_given ss ls ms k v side h = given ss ss ls ms k v (λ q. go q (is_short q) (bytes_eq k q) (same_side k q false (bytes_eq k q) side refl) (h q))
   where
     go : (q : Name) (short same : Bool) → (short ≡ true → same ≡ false) → at q ms ≡ cond same (Some v) (at q ls) → found short q ss ms ≡ cond same (Some v) (found short q ss ls)

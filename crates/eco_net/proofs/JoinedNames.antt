@@ -10,7 +10,7 @@ use Rattle.std.proofs.lemmas.Option.{slice_get_within, get_or_from_slice_get}
 use Rattle.eco_net.specs.declared.rows.NetRow.{NetRow}
 use Rattle.eco_net.specs.declared.rows.CompRow.{CompRow}
 use Rattle.eco_net.specs.Netlist.{Name, name_cmp, Component, Role, pins_of}
-use Rattle.eco_net.specs.Listing.{Listing, netlist, component, pins, joints, net_name, AreApart}
+use Rattle.eco_net.specs.Listing.{Listing, netlist, component, pins, row_joints, net_name, AreDistinctNames}
 use Rattle.eco_net.specs.Kept.{IsRow, IsListing}
 use Rattle.eco_net.specs.JoinedPins.{joined_pins, unconnected_pins}
 use Rattle.eco_net.proofs.Basics.{not_None, cmp_apart}
@@ -48,7 +48,7 @@ module _ {X : Type 0} (f : X → ℕ) where
       ∙ none_rest k es (λ i. new (suc i))
 
   -- over the values of the map of a list whose keys are distinct
-  total_values : (es : List (Name × X)) → AreApart (map (λ e. e.0) es) → sum_by f (values (from_entries {R = name_cmp} es)) ≡ total es
+  total_values : (es : List (Name × X)) → AreDistinctNames (map (λ e. e.0) es) → sum_by f (values (from_entries {R = name_cmp} es)) ≡ total es
   total_values [] a = ap total (no_entries (entries (empty {X = X} {R = name_cmp})) (sym (len-entries (empty {X = X} {R = name_cmp})) ∙ len-empty name_cmp X))
   total_values (e ∷ es) a =
       let new : find name_cmp e.0 (entries (from_entries es)) ≡ None =
@@ -58,7 +58,7 @@ module _ {X : Type 0} (f : X → ℕ) where
       ∙ ap (λ n. f e.1 + n) (total_values es (apart_rest e.0 (map (λ e. e.0) es) a))
       ∙ sym (total_cons e es)
 
--- ---- the joints of a component
+-- ---- the row_joints of a component
 
 -- how many pins of a row are on a net
 abbrev pub joined_count : CompRow → ℕ
@@ -67,14 +67,14 @@ joined_count r = count_by is_some r.joined
 count_cons : (j : Option ℕ) (js : List (Option ℕ)) → count_by is_some (j ∷ js) ≡ cond (is_some j) 1 0 + count_by is_some js
 count_cons j js = sum_by-cons (λ j. cond (is_some j) 1 0) j js
 
-joint_count : (nets : List NetRow) (ps : List (Name × Role)) (js : List (Option ℕ)) → AreApart (map (λ p. p.0) ps) → length js ≡ length ps → len (from_entries {R = name_cmp} (joints nets ps js)) ≡ count_by is_some js
+joint_count : (nets : List NetRow) (ps : List (Name × Role)) (js : List (Option ℕ)) → AreDistinctNames (map (λ p. p.0) ps) → length js ≡ length ps → len (from_entries {R = name_cmp} (row_joints nets ps js)) ≡ count_by is_some js
 joint_count nets [] [] a l = len-empty name_cmp Name
 joint_count nets [] (j ∷ js) a l = absurd (omega (arith, l))
 joint_count nets (p ∷ ps) [] a l = absurd (omega (arith, l))
 joint_count nets (p ∷ ps) (None ∷ js) a l = omega (arith, joint_count nets ps js (apart_rest p.0 (map (λ p. p.0) ps) a) (omega (arith, l)), count_cons None js)
 joint_count nets (p ∷ ps) (Some i ∷ js) a l =
-    let rest = from_entries {R = name_cmp} (joints nets ps js) in
-    let new : get rest p.0 ≡ None = get-from_entries nat_list_cmp_total (joints nets ps js) p.0 ∙ joint_none nets ps js p.0 (λ i s. apart_first p.0 (map (λ p. p.0) ps) a i p.0 s refl) in
+    let rest = from_entries {R = name_cmp} (row_joints nets ps js) in
+    let new : get rest p.0 ≡ None = get-from_entries nat_list_cmp_total (row_joints nets ps js) p.0 ∙ joint_none nets ps js p.0 (λ i s. apart_first p.0 (map (λ p. p.0) ps) a i p.0 s refl) in
     len-insert nat_list_cmp_total rest p.0 (net_name nets i)
     ∙ ap (λ o. cond (is_some o) (len rest) (len rest + 1)) new
     ∙ omega (arith, joint_count nets ps js (apart_rest p.0 (map (λ p. p.0) ps) a) (omega (arith, l)), count_cons (Some i) js)
@@ -107,7 +107,7 @@ values_are f (r ∷ rows) = ap (λ xs. f r ∷ xs) (values_are f rows)
 pub joined_rows : (L : Listing) → IsListing L → sum_by joined_count L.comps ≡ joined_pins (netlist L)
 joined_rows L is =
     let es : List (Name × Component) = map (λ r. (r.name, component L.nets r)) L.comps in
-    let a : AreApart (map (λ e. e.0) es) = subst AreApart (sym (names_are (component L.nets) L.comps)) is.comps in
+    let a : AreDistinctNames (map (λ e. e.0) es) = subst AreDistinctNames (sym (names_are (component L.nets) L.comps)) is.comps in
     sym (total_values (λ x. len x.joined) es a
     ∙ ap (sum_by (λ x. len x.joined)) (values_are (component L.nets) L.comps)
     ∙ sum_alike joined_count (λ x. len x.joined) (component L.nets) L.comps (λ k r e.
@@ -129,7 +129,7 @@ off_more rows n r e = sum_by_more off_count rows n r (slice_get_within rows n r 
 pub off_rows : (L : Listing) → IsListing L → sum_by off_count L.comps ≡ unconnected_pins (netlist L)
 off_rows L is =
     let es : List (Name × Component) = map (λ r. (r.name, component L.nets r)) L.comps in
-    let a : AreApart (map (λ e. e.0) es) = subst AreApart (sym (names_are (component L.nets) L.comps)) is.comps in
+    let a : AreDistinctNames (map (λ e. e.0) es) = subst AreDistinctNames (sym (names_are (component L.nets) L.comps)) is.comps in
     sym (total_values (λ x. length (pins_of x.kind) - len x.joined) es a
     ∙ ap (sum_by (λ x. length (pins_of x.kind) - len x.joined)) (values_are (component L.nets) L.comps)
     ∙ sum_alike off_count (λ x. length (pins_of x.kind) - len x.joined) (component L.nets) L.comps (λ k r e.

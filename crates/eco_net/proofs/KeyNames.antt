@@ -15,10 +15,10 @@ use Rattle.eco_net.specs.declared.ids.PinRef.{PinRef}
 use Rattle.eco_net.specs.declared.ids.PinRef.TheVariants.{Top as TopNumber, Pin as PinNumber}
 use Rattle.eco_net.specs.declared.cut.CutKey.{CutKey as KeyNumber}
 use Rattle.eco_net.specs.declared.cut.CutKey.TheVariants.{Net}
-use Rattle.eco_net.specs.Netlist.{Netlist, Role, Reads, Computes, Outside, pins_of}
+use Rattle.eco_net.specs.Netlist.{Netlist, Role, GateInput, GateOutput, BoxedPin, pins_of}
 use Rattle.eco_net.specs.Drivers.{is_driving, IsComputed, IsFree}
 use Rattle.eco_net.specs.CutKeys.{PinKey, NetKey, KeyOf, is_source_pin, is_source_top, is_source_at, is_source, is_input}
-use Rattle.eco_net.specs.Listing.{Listing, netlist, net_names, pin_named, pins, kind_of}
+use Rattle.eco_net.specs.Listing.{Listing, netlist, net_names, numbered_pin, pins, given_kind}
 use Rattle.eco_net.specs.Kept.{IsListing}
 use Rattle.eco_net.specs.ByNumber.{driver_at}
 use Rattle.eco_net.specs.Gates.{by_kind, gate_at, gate_pin, unsupplied}
@@ -33,10 +33,10 @@ use Rattle.eco_net.proofs.GateNames.{nm, is_computed, not_computed, is_gate, has
 module _ (L : Listing) (is : IsListing L) where
   -- ---- what a pin's number says of its name
 
-  top_source : (t : TopId) (w : TopAt L t.0) → is_source_pin (netlist L) (pin_named L (TopNumber t)) ≡ is_input w.row.dir
+  top_source : (t : TopId) (w : TopAt L t.0) → is_source_pin (netlist L) (numbered_pin L (TopNumber t)) ≡ is_input w.row.dir
   top_source t w = ap (is_source_pin (netlist L)) (top_name_is L t.0 w) ∙ ap is_source_top (top_is L is t.0 w.row w.is)
 
-  pin_source : (c : CompId) (k : ℕ) (w : PinRow L c.0 k) → is_source_pin (netlist L) (pin_named L (PinNumber c k)) ≡ is_source (Some w.pin.1)
+  pin_source : (c : CompId) (k : ℕ) (w : PinRow L c.0 k) → is_source_pin (netlist L) (numbered_pin L (PinNumber c k)) ≡ is_source (Some w.pin.1)
   pin_source c k w =
       ap (is_source_pin (netlist L)) (pin_name_is L c.0 k w)
       ∙ ap (λ o. is_source_at o w.pin.0) (comp_is L is c.0 w.row w.is)
@@ -55,12 +55,12 @@ module _ (L : Listing) (is : IsListing L) where
     supply_named = ap (get N.nets) (net_name_is L is n row.0 row.1) ∙ net_is L is n row.0 row.1
 
     -- the key that is its driving pin, where that is a source
-    driver_key : (p : PinRef) → driver_at L n ≡ Some p → is_source_pin N (pin_named L p) ≡ true → KeyOf N (nm L is n) (PinKey (pin_named L p))
+    driver_key : (p : PinRef) → driver_at L n ≡ Some p → is_source_pin N (numbered_pin L p) ≡ true → KeyOf N (nm L is n) (PinKey (numbered_pin L p))
     driver_key p d s = ((driver_named L is n p h d).1, s)
 
     -- the net itself, where its driving pin is no source
-    other_key : (p : PinRef) → driver_at L n ≡ Some p → is_source_pin N (pin_named L p) ≡ false → KeyOf N (nm L is n) (NetKey (nm L is n))
-    other_key p d s = (refl, λ q e t. true≢false (sym t ∙ ap (is_source_pin N) (sym (e.only (pin_named L p) (driver_named L is n p h d).1.drives)) ∙ s))
+    other_key : (p : PinRef) → driver_at L n ≡ Some p → is_source_pin N (numbered_pin L p) ≡ false → KeyOf N (nm L is n) (NetKey (nm L is n))
+    other_key p d s = (refl, λ q e t. true≢false (sym t ∙ ap (is_source_pin N) (sym (e.only (numbered_pin L p) (driver_named L is n p h d).1.drives)) ∙ s))
 
     no_key : driver_at L n ≡ None → KeyOf N (nm L is n) (NetKey (nm L is n))
     no_key d = (refl, λ q e t. no_driver_named L is n h d q e)
@@ -87,19 +87,19 @@ module _ (L : Listing) (is : IsListing L) where
     by_dir s t d w Inout e key f = own key f (free_by s (Some (TopNumber t)) d refl) (other_key (TopNumber t) d (top_source t w ∙ ap is_input e))
 
     -- a pin of a box is no gate's
-    boxed : (c : CompId) (k : ℕ) (w : PinRow L c.0 k) (d : Dir) → w.pin.1 ≡ Outside d → gate_pin L (Some (PinNumber c k)) ≡ None
+    boxed : (c : CompId) (k : ℕ) (w : PinRow L c.0 k) (d : Dir) → w.pin.1 ≡ BoxedPin d → gate_pin L (Some (PinNumber c k)) ≡ None
     boxed c k w d e = go w.row.kind refl
       where
         go : (x : Kind) → w.row.kind ≡ x → gate_pin L (Some (PinNumber c k)) ≡ None
-        go (Gate m) f = absurd (gate_inside m w.pin (subst (λ x. Has (pins_of (kind_of x)) w.pin) f (has_at (pins w.row) k w.pin w.at)) d e)
+        go (Gate m) f = absurd (gate_inside m w.pin (subst (λ x. Has (pins_of (given_kind x)) w.pin) f (has_at (pins w.row) k w.pin w.at)) d e)
         go (GivenBox ps) f = ap (λ o. gate_at o c k) w.is ∙ ap (λ x. by_kind x c k) f
 
     by_role : row.0.supply ≡ None → (c : CompId) (k : ℕ) → driver_at L n ≡ Some (PinNumber c k) → (w : PinRow L c.0 k) → (r : Role) → w.pin.1 ≡ r → (key : KeyNumber) → key_by_role (Some r) c k n ≡ Some key → Keyed key
-    by_role s c k d w Reads e key f = absurd (true≢false (sym (driver_drives L is n (PinNumber c k) d) ∙ ap is_driving (pin_role_is L c.0 k w ∙ ap Some e)))
-    by_role s c k d w (Computes t) e key f = absurd (not_None (sym f))
-    by_role s c k d w (Outside Input) e key f = own key f (free_by s (Some (PinNumber c k)) d (boxed c k w Input e)) (other_key (PinNumber c k) d (pin_source c k w ∙ ap (λ r. is_source (Some r)) e))
-    by_role s c k d w (Outside Output) e key f = subst Keyed (same_Some f) (free_by s (Some (PinNumber c k)) d (boxed c k w Output e), driver_key (PinNumber c k) d (pin_source c k w ∙ ap (λ r. is_source (Some r)) e))
-    by_role s c k d w (Outside Inout) e key f = own key f (free_by s (Some (PinNumber c k)) d (boxed c k w Inout e)) (other_key (PinNumber c k) d (pin_source c k w ∙ ap (λ r. is_source (Some r)) e))
+    by_role s c k d w GateInput e key f = absurd (true≢false (sym (driver_drives L is n (PinNumber c k) d) ∙ ap is_driving (pin_role_is L c.0 k w ∙ ap Some e)))
+    by_role s c k d w (GateOutput t) e key f = absurd (not_None (sym f))
+    by_role s c k d w (BoxedPin Input) e key f = own key f (free_by s (Some (PinNumber c k)) d (boxed c k w Input e)) (other_key (PinNumber c k) d (pin_source c k w ∙ ap (λ r. is_source (Some r)) e))
+    by_role s c k d w (BoxedPin Output) e key f = subst Keyed (same_Some f) (free_by s (Some (PinNumber c k)) d (boxed c k w Output e), driver_key (PinNumber c k) d (pin_source c k w ∙ ap (λ r. is_source (Some r)) e))
+    by_role s c k d w (BoxedPin Inout) e key f = own key f (free_by s (Some (PinNumber c k)) d (boxed c k w Inout e)) (other_key (PinNumber c k) d (pin_source c k w ∙ ap (λ r. is_source (Some r)) e))
 
     by_driver : row.0.supply ≡ None → (o : Option PinRef) → driver_at L n ≡ o → (key : KeyNumber) → key_by_driver L n o ≡ Some key → Keyed key
     by_driver s None d key e = own key e (free_by s None d refl) (no_key d)
@@ -122,15 +122,15 @@ module _ (L : Listing) (is : IsListing L) where
     keyed key e = by_supply row.0.supply refl key (sym row_key ∙ e)
 
     computing : row.0.supply ≡ None → (c : CompId) (k : ℕ) → driver_at L n ≡ Some (PinNumber c k) → (w : PinRow L c.0 k) → (r : Role) → w.pin.1 ≡ r → key_by_role (Some r) c k n ≡ None → IsComputed N (nm L is n)
-    computing s c k d w Reads e f = absurd (not_None f)
-    computing s c k d w (Outside Input) e f = absurd (not_None f)
-    computing s c k d w (Outside Output) e f = absurd (not_None f)
-    computing s c k d w (Outside Inout) e f = absurd (not_None f)
-    computing s c k d w (Computes t) e f = go w.row.kind refl
+    computing s c k d w GateInput e f = absurd (not_None f)
+    computing s c k d w (BoxedPin Input) e f = absurd (not_None f)
+    computing s c k d w (BoxedPin Output) e f = absurd (not_None f)
+    computing s c k d w (BoxedPin Inout) e f = absurd (not_None f)
+    computing s c k d w (GateOutput t) e f = go w.row.kind refl
       where
         go : (x : Kind) → w.row.kind ≡ x → IsComputed N (nm L is n)
         go (Gate m) g = is_computed L is n (c, k) (is_gate L n (c, k) (record { row = row.0; net = row.1; free = s; driver = d; comp = w.row; at = w.is; master = m; kind = g }))
-        go (GivenBox ps) g = absurd (box_outside ps w.pin (subst (λ x. Has (pins_of (kind_of x)) w.pin) g (has_at (pins w.row) k w.pin w.at)) t e)
+        go (GivenBox ps) g = absurd (box_outside ps w.pin (subst (λ x. Has (pins_of (given_kind x)) w.pin) g (has_at (pins w.row) k w.pin w.at)) t e)
 
     dir_has : (d : Dir) (t : TopId) → key_by_dir d t n ≡ None → ⊥
     dir_has Input t e = not_None e

@@ -7,8 +7,8 @@ use Rattle.eco_func.specs.declared.output.OutputFn.{OutputFn}
 use Rattle.eco_func.specs.Masters.{MasterTables}
 use Rattle.eco_net.specs.declared.kind.BoxPin.{BoxPin}
 use Rattle.eco_net.specs.declared.kind.Kind.TheVariants.{Gate as GivenGate, Boxed as GivenBox}
-use Rattle.eco_net.specs.Netlist.{Name, Role, Reads, Computes, Outside, pins_of}
-use Rattle.eco_net.specs.Listing.{bits_of, kind_of}
+use Rattle.eco_net.specs.Netlist.{Name, Role, GateInput, GateOutput, BoxedPin, pins_of}
+use Rattle.eco_net.specs.Listing.{bits_of, given_kind}
 use Rattle.eco_net.proofs.MasterPins.{gate_length, box_length}
 
 pub append_left : {A : Type 0} (xs ys : List A) (k : ℕ) → k < length xs → slice_get (xs ++ ys) k ≡ slice_get xs k
@@ -24,18 +24,18 @@ append_right (x ∷ xs) ys (suc k) j e = append_right xs ys k j (omega (arith, e
 -- ---- gates
 
 abbrev pub input_pin : Name → Name × Role
-input_pin p = (p, Reads)
+input_pin p = (p, GateInput)
 
 abbrev pub output_pin : OutputFn → Name × Role
-output_pin o = (o.pin, Computes (bits_of o.table))
+output_pin o = (o.pin, GateOutput (bits_of o.table))
 
-outputs_are : (os : List OutputFn) → map {B = Name × Role} (λ o. (o.0, Computes o.1)) (map {B = Name × List Bool} (λ o. (o.pin, bits_of o.table)) os) ≡ map output_pin os
+outputs_are : (os : List OutputFn) → map {B = Name × Role} (λ o. (o.0, GateOutput o.1)) (map {B = Name × List Bool} (λ o. (o.pin, bits_of o.table)) os) ≡ map output_pin os
 outputs_are [] = refl
 outputs_are (o ∷ os) = ap (λ ps. output_pin o ∷ ps) (outputs_are os)
 
 module _ (m : MasterTables) (ins : List Name) (outs : List OutputFn) (e : ins ≡ m.inputs) (f : outs ≡ m.outputs) where
   abbrev gate_pins : List (Name × Role)
-  gate_pins = pins_of (kind_of (GivenGate m))
+  gate_pins = pins_of (given_kind (GivenGate m))
 
   gate_pins_are : gate_pins ≡ map input_pin ins ++ map output_pin outs
   gate_pins_are =
@@ -61,13 +61,13 @@ module _ (m : MasterTables) (ins : List Name) (outs : List OutputFn) (e : ins �
 -- ---- boxes
 
 abbrev pub box_pin : BoxPin → Name × Role
-box_pin p = (p.name, Outside p.dir)
+box_pin p = (p.name, BoxedPin p.dir)
 
-box_pins_are : (ps : List BoxPin) → pins_of (kind_of (GivenBox ps)) ≡ map box_pin ps
+box_pins_are : (ps : List BoxPin) → pins_of (given_kind (GivenBox ps)) ≡ map box_pin ps
 box_pins_are [] = refl
 box_pins_are (p ∷ ps) = ap (λ qs. box_pin p ∷ qs) (box_pins_are ps)
 
-pub box_at : (ps qs : List BoxPin) (e : qs ≡ ps) (k : ℕ) (d : BoxPin) → k < length (pins_of (kind_of (GivenBox ps))) → slice_get (pins_of (kind_of (GivenBox ps))) k ≡ Some (box_pin (get_or qs k d))
+pub box_at : (ps qs : List BoxPin) (e : qs ≡ ps) (k : ℕ) (d : BoxPin) → k < length (pins_of (given_kind (GivenBox ps))) → slice_get (pins_of (given_kind (GivenBox ps))) k ≡ Some (box_pin (get_or qs k d))
 box_at ps qs e k d h =
     ap (λ xs. slice_get xs k) (box_pins_are ps)
     ∙ slice_get-map box_pin ps k

@@ -8,7 +8,7 @@ use Rattle.std.specs.Cmp.Lexicographic.{nat_list_cmp_total}
 use Rattle.std.specs.FinMap.{get, from_entries, find, get-from_entries}
 use Rattle.std.specs.FinSet.{from_list}
 use Rattle.eco_common.specs.declared.geometry.Dir.{Dir}
-use Rattle.eco_net.specs.Netlist.{Name, name_cmp, Kind, Netlist, Component, Top, Pin, TopPin, CompPin, Computes, Outside, pins_of, role_of, input_names, inputs_of, IsNet, IsWhole, IsPin, HasRows, Role}
+use Rattle.eco_net.specs.Netlist.{Name, name_cmp, Kind, Netlist, Component, Top, Pin, TopPin, CompPin, GateOutput, BoxedPin, pins_of, role_of, input_names, input_nets, IsNet, IsWellFormed, IsPin, HasRows, Role}
 use Rattle.eco_net.specs.Drivers.{is_driving, driven, driven_at, driven_top, IsDriver, Computed, IsFree}
 use Rattle.eco_net.specs.CutKeys.{PinKey, key_cmp}
 use Rattle.eco_net.proofs.Basics.{Has, has_from_contains, same_Some, not_None, cmp_itself, has_found, has_append_left, has_append_right, has_map, map_agree, find_first, find_rest, same_name}
@@ -56,7 +56,7 @@ comp_made L c = get-from_entries nat_list_cmp_total (components L.comps) c ∙ f
 pub joined_made : (x : Part) (p : Name) → get (component x).joined p ≡ find name_cmp p x.1
 joined_made x p = get-from_entries nat_list_cmp_total x.1 p
 
-pub inputs_made : (x : Part) → inputs_of (component x) ≡ map (λ p. find name_cmp p x.1) (input_names x.0)
+pub inputs_made : (x : Part) → input_nets (component x) ≡ map (λ p. find name_cmp p x.1) (input_names x.0)
 inputs_made x = map_agree _ _ (input_names x.0) (λ p h. joined_made x p)
 
 -- ---- what a pin drives
@@ -141,7 +141,7 @@ driver_by L n p d e = record {
 
 -- ---- computed and free nets
 
-pub computed_by : (L : Lists) (n c p : Name) (x : Part) (table : List Bool) → find name_cmp n L.nets ≡ Some None → IsDriver (made L) n (CompPin c p) → find name_cmp c L.comps ≡ Some x → find name_cmp p (pins_of x.0) ≡ Some (Computes table) → Computed (made L) n table (map (λ i. find name_cmp i x.1) (input_names x.0))
+pub computed_by : (L : Lists) (n c p : Name) (x : Part) (table : List Bool) → find name_cmp n L.nets ≡ Some None → IsDriver (made L) n (CompPin c p) → find name_cmp c L.comps ≡ Some x → find name_cmp p (pins_of x.0) ≡ Some (GateOutput table) → Computed (made L) n table (map (λ i. find name_cmp i x.1) (input_names x.0))
 computed_by L n c p x table u d e f = record {
   unsupplied = net_made L n ∙ u;
   comp = c;
@@ -156,15 +156,15 @@ computed_by L n c p x table u d e f = record {
 pub free_top : (N : Netlist) (n t : Name) → get N.nets n ≡ Some None → IsDriver N n (TopPin t) → IsFree N n
 free_top N n t u d = (u, λ m. let e : CompPin m.2.comp m.2.pin ≡ TopPin t = d.only (CompPin m.2.comp m.2.pin) m.2.driver.drives in cc)
 
-not_computes : {t : List Bool} {d : Dir} → Some (Outside d) ≡ Some (Computes t) → ⊥
+not_computes : {t : List Bool} {d : Dir} → Some (BoxedPin d) ≡ Some (GateOutput t) → ⊥
 not_computes e = cc
 
-pub free_box : (N : Netlist) (n c p : Name) (x : Component) (d : Dir) → get N.nets n ≡ Some None → IsDriver N n (CompPin c p) → get N.comps c ≡ Some x → role_of x p ≡ Some (Outside d) → IsFree N n
+pub free_box : (N : Netlist) (n c p : Name) (x : Component) (d : Dir) → get N.nets n ≡ Some None → IsDriver N n (CompPin c p) → get N.comps c ≡ Some x → role_of x p ≡ Some (BoxedPin d) → IsFree N n
 free_box N n c p x d u driver e r = (
   u,
   λ m.
       let g = gate_is N n m.0 m.1 m.2 c p x driver e in
-      let h : role_of x p ≡ Some (Computes m.0) = ap (λ y. role_of y p) (sym g.0) ∙ ap (role_of m.2.gate) (sym g.1) ∙ m.2.at in
+      let h : role_of x p ≡ Some (GateOutput m.0) = ap (λ y. role_of y p) (sym g.0) ∙ ap (role_of m.2.gate) (sym g.1) ∙ m.2.at in
       not_computes (sym r ∙ h),
 )
 
@@ -193,11 +193,11 @@ part_reads P (d ∷ es) c x each e a h =
     (λ n. part_reads P es c x each.1 (find_rest d es c n e) a h)
     (same_name c d.0)
 
-pub reads_by : (L : Lists) (P : Name → Type 0) → EachReads P L.comps → (c : Name) (gate : Component) → get (made L).comps c ≡ Some gate → (a : Name) → Contains (inputs_of gate) (Some a) → P a
+pub reads_by : (L : Lists) (P : Name → Type 0) → EachReads P L.comps → (c : Name) (gate : Component) → get (made L).comps c ≡ Some gate → (a : Name) → Contains (input_nets gate) (Some a) → P a
 reads_by L P each c gate e a i =
-    let h = has_from_contains (inputs_of gate) (Some a) i in
+    let h = has_from_contains (input_nets gate) (Some a) i in
     let x = part_of L c gate e in
-    part_reads P L.comps c x.0 each x.1 a (subst (λ ins. Has ins (Some a)) (ap inputs_of (sym x.2) ∙ inputs_made x.0) h)
+    part_reads P L.comps c x.0 each x.1 a (subst (λ ins. Has ins (Some a)) (ap input_nets (sym x.2) ∙ inputs_made x.0) h)
 
 -- each of these names is a net
 abbrev pub are_nets : Lists → List Name → Bool
@@ -261,7 +261,7 @@ joined_pin pins (j ∷ js) p n e f =
 pin_of : (es : List (Name × Part)) (c : Name) (y : Part) (p n : Name) → EachFits es → find name_cmp c es ≡ Some y → find name_cmp p y.1 ≡ Some n → (x : Component) → component y ≡ x → IsPin x p
 pin_of es c y p n fits e f x s = subst (λ z. IsPin z p) s (joined_pin (pins_of y.0) y.1 p n (part_fits es c y fits e).2 f)
 
-pub whole_by : (L : Lists) → EachFits L.comps → are_nets L (all_joined L.comps) ≡ true → are_nets L (map (λ e. e.1.net) L.tops) ≡ true → IsWhole (made L)
+pub whole_by : (L : Lists) → EachFits L.comps → are_nets L (all_joined L.comps) ≡ true → are_nets L (map (λ e. e.1.net) L.tops) ≡ true → IsWellFormed (made L)
 whole_by L fits e f = record {
   names = λ c x g. let y = part_of L c x g in subst (λ z. IsDistinct (eq_by_cmp name_cmp) (names_of (pins_of z.kind))) y.2 (part_fits L.comps c y.0 fits y.1).0;
   rows = λ c x g. let y = part_of L c x g in subst (λ z. HasRows z.kind) y.2 (part_fits L.comps c y.0 fits y.1).1;

@@ -13,8 +13,8 @@ use Rattle.eco_func.specs.Tables.{at}
 use Rattle.eco_func.specs.Masters.{MasterTables, is_master, all_differ, pins as master_pins}
 use Rattle.eco_net.specs.declared.kind.BoxPin.{BoxPin}
 use Rattle.eco_net.specs.declared.kind.Kind.TheVariants.{Gate as GivenGate, Boxed as GivenBox}
-use Rattle.eco_net.specs.Netlist.{Name, name_cmp, Role, Reads, Computes, Outside, pins_of}
-use Rattle.eco_net.specs.Listing.{AreApart, bits_of, kind_of}
+use Rattle.eco_net.specs.Netlist.{Name, name_cmp, Role, GateInput, GateOutput, BoxedPin, pins_of}
+use Rattle.eco_net.specs.Listing.{AreDistinctNames, bits_of, given_kind}
 use Rattle.eco_net.specs.Kept.{IsKind}
 use Rattle.eco_net.proofs.Basics.{Has, has_from_contains, same_Some, not_None}
 use Rattle.eco_net.proofs.Places.{apart_distinct}
@@ -38,24 +38,24 @@ not_any n (m ∷ ns) j h e = go (bytes_eq n m) refl j (λ k f g. not_any n ns k 
     go false s zero r h e = true≢false (sym ((bytes_eq-Decides n m).1 (sym (same_Some e))) ∙ s)
     go false s (suc j) r h e = r j h e
 
-apart_differ : (ns : List Name) → all_differ ns ≡ true → AreApart ns
+apart_differ : (ns : List Name) → all_differ ns ≡ true → AreDistinctNames ns
 apart_differ [] d i j n e f = absurd (not_None (sym e))
 apart_differ (m ∷ ns) d zero zero n e f = refl
 apart_differ (m ∷ ns) d zero (suc j) n e f = absurd (not_any m ns j (first_so _ _ d) (f ∙ sym e))
 apart_differ (m ∷ ns) d (suc i) zero n e f = absurd (not_any m ns i (first_so _ _ d) (e ∙ sym f))
 apart_differ (m ∷ ns) d (suc i) (suc j) n e f = ap suc (apart_differ ns (second_so (not (list_any (bytes_eq m) ns)) _ d) i j n e f)
 
-input_names : (ns : List Name) → map (λ p. p.0) (map {B = Name × Role} (λ p. (p, Reads)) ns) ≡ ns
+input_names : (ns : List Name) → map (λ p. p.0) (map {B = Name × Role} (λ p. (p, GateInput)) ns) ≡ ns
 input_names [] = refl
 input_names (n ∷ ns) = ap (λ xs. n ∷ xs) (input_names ns)
 
-output_names : (os : List OutputFn) → map (λ p. p.0) (map {B = Name × Role} (λ o. (o.0, Computes o.1)) (map {B = Name × List Bool} (λ o. (o.pin, bits_of o.table)) os)) ≡ map (λ o. o.pin) os
+output_names : (os : List OutputFn) → map (λ p. p.0) (map {B = Name × Role} (λ o. (o.0, GateOutput o.1)) (map {B = Name × List Bool} (λ o. (o.pin, bits_of o.table)) os)) ≡ map (λ o. o.pin) os
 output_names [] = refl
 output_names (o ∷ os) = ap (λ xs. o.pin ∷ xs) (output_names os)
 
-pub gate_names : (m : MasterTables) → map (λ p. p.0) (pins_of (kind_of (GivenGate m))) ≡ master_pins m.inputs m.outputs
+pub gate_names : (m : MasterTables) → map (λ p. p.0) (pins_of (given_kind (GivenGate m))) ≡ master_pins m.inputs m.outputs
 gate_names m =
-    map-append (λ p. p.0) (map {B = Name × Role} (λ p. (p, Reads)) m.inputs) _
+    map-append (λ p. p.0) (map {B = Name × Role} (λ p. (p, GateInput)) m.inputs) _
     ∙ (λ i. input_names m.inputs i ++ output_names m.outputs i)
 
 -- ---- tables with their rows
@@ -95,11 +95,11 @@ parts ins outs h =
       differ = second_so (a && b && c && d) _ h;
     }
 
-pub gate_length : (m : MasterTables) → length (pins_of (kind_of (GivenGate m))) ≡ length m.inputs + length m.outputs
+pub gate_length : (m : MasterTables) → length (pins_of (given_kind (GivenGate m))) ≡ length m.inputs + length m.outputs
 gate_length m =
-    sym (length-map (pins_of (kind_of (GivenGate m))) (λ p. p.0)) ∙ ap length (gate_names m) ∙ length-append m.inputs (map (λ o. o.pin) m.outputs) ∙ ap (λ n. length m.inputs + n) (length-map m.outputs (λ o. o.pin))
+    sym (length-map (pins_of (given_kind (GivenGate m))) (λ p. p.0)) ∙ ap length (gate_names m) ∙ length-append m.inputs (map (λ o. o.pin) m.outputs) ∙ ap (λ n. length m.inputs + n) (length-map m.outputs (λ o. o.pin))
 
-pub gate_is_kind : (m : MasterTables) → IsTrue (is_master m.inputs m.outputs) → IsKind (kind_of (GivenGate m))
+pub gate_is_kind : (m : MasterTables) → IsTrue (is_master m.inputs m.outputs) → IsKind (given_kind (GivenGate m))
 gate_is_kind m h =
     let p = parts m.inputs m.outputs h in
     let l = gate_length m in
@@ -109,14 +109,14 @@ gate_is_kind m h =
       rows = λ o c. rows_of (length m.inputs) m.outputs p.tables o (has_from_contains _ o c);
     }
 
-box_names : (ps : List BoxPin) → map (λ p. p.0) (map {B = Name × Role} (λ p. (p.0, Outside p.1)) (map {B = Name × Dir} (λ p. (p.name, p.dir)) ps)) ≡ map (λ p. p.name) ps
+box_names : (ps : List BoxPin) → map (λ p. p.0) (map {B = Name × Role} (λ p. (p.0, BoxedPin p.1)) (map {B = Name × Dir} (λ p. (p.name, p.dir)) ps)) ≡ map (λ p. p.name) ps
 box_names [] = refl
 box_names (p ∷ ps) = ap (λ xs. p.name ∷ xs) (box_names ps)
 
-pub box_length : (ps : List BoxPin) → length (pins_of (kind_of (GivenBox ps))) ≡ length ps
-box_length ps = sym (length-map (pins_of (kind_of (GivenBox ps))) (λ p. p.0)) ∙ ap length (box_names ps) ∙ length-map ps (λ p. p.name)
+pub box_length : (ps : List BoxPin) → length (pins_of (given_kind (GivenBox ps))) ≡ length ps
+box_length ps = sym (length-map (pins_of (given_kind (GivenBox ps))) (λ p. p.0)) ∙ ap length (box_names ps) ∙ length-map ps (λ p. p.name)
 
-pub box_is_kind : (ps : List BoxPin) → IsDistinct (eq_by_cmp name_cmp) (map (λ p. p.name) ps) → length ps < 2 ^ 32 → IsKind (kind_of (GivenBox ps))
+pub box_is_kind : (ps : List BoxPin) → IsDistinct (eq_by_cmp name_cmp) (map (λ p. p.name) ps) → length ps < 2 ^ 32 → IsKind (given_kind (GivenBox ps))
 box_is_kind ps d h =
     let l = box_length ps in
     record {

@@ -8,20 +8,20 @@ use Rattle.eco_net.specs.declared.rows.NetRow.{NetRow}
 use Rattle.eco_net.specs.declared.rows.CompRow.{CompRow}
 use Rattle.eco_net.specs.declared.rows.TopRow.{TopRow}
 use Rattle.eco_net.specs.Netlist.{Name, name_cmp, Component, Top, Role, role_of}
-use Rattle.eco_net.specs.Listing.{Listing, netlist, component, top, pins, joints, net_name, AreApart}
+use Rattle.eco_net.specs.Listing.{Listing, netlist, component, top, pins, row_joints, net_name, AreDistinctNames}
 use Rattle.eco_net.specs.Kept.{IsRow, IsListing}
 use Rattle.eco_net.proofs.Basics.{same_Some, not_None, same_name, cmp_itself, cmp_apart, find_first, find_rest}
 use Rattle.eco_net.proofs.Places.{at_place, name_of_row, row_found, found_row}
 
 -- ---- pairs by their names
 
-pub apart_rest : (n : Name) (ns : List Name) → AreApart (n ∷ ns) → AreApart ns
+pub apart_rest : (n : Name) (ns : List Name) → AreDistinctNames (n ∷ ns) → AreDistinctNames ns
 apart_rest n ns a i j m e f = let z : suc i ≡ suc j = a (suc i) (suc j) m e f in omega (arith, z)
 
-pub apart_first : (n : Name) (ns : List Name) → AreApart (n ∷ ns) → (i : ℕ) (m : Name) → slice_get ns i ≡ Some m → m ≢ n
+pub apart_first : (n : Name) (ns : List Name) → AreDistinctNames (n ∷ ns) → (i : ℕ) (m : Name) → slice_get ns i ≡ Some m → m ≢ n
 apart_first n ns a i m e s = let z : 0 ≡ suc i = a 0 (suc i) m (ap Some (sym s)) e in absurd (omega (arith, z))
 
-pub find_at : {X : Type 0} (es : List (Name × X)) (i : ℕ) (e : Name × X) → AreApart (map (λ e. e.0) es) → slice_get es i ≡ Some e → find name_cmp e.0 es ≡ Some e.1
+pub find_at : {X : Type 0} (es : List (Name × X)) (i : ℕ) (e : Name × X) → AreDistinctNames (map (λ e. e.0) es) → slice_get es i ≡ Some e → find name_cmp e.0 es ≡ Some e.1
 find_at [] i e a h = absurd (not_None (sym h))
 find_at (d ∷ es) zero e a h =
     ap (λ b. cond b (Some d.1) (find name_cmp e.0 es)) (ap (λ x. eq_by_cmp name_cmp x.0 d.0) (sym (same_Some h)) ∙ cmp_itself d.0)
@@ -37,38 +37,38 @@ found_at {X = X} (d ∷ es) q x e = ⊎_elim
     (λ n. let w = found_at es q x (find_rest d es q n e) in (suc w.0, w.1))
     (same_name q d.0)
 
--- ---- joints by their pins' names
+-- ---- row_joints by their pins' names
 
 module _ (nets : List NetRow) where
-  pub joint_none : (ps : List (Name × Role)) (js : List (Option ℕ)) (q : Name) → ((i : ℕ) → slice_get (map (λ p. p.0) ps) i ≡ Some q → ⊥) → find name_cmp q (joints nets ps js) ≡ None
+  pub joint_none : (ps : List (Name × Role)) (js : List (Option ℕ)) (q : Name) → ((i : ℕ) → slice_get (map (λ p. p.0) ps) i ≡ Some q → ⊥) → find name_cmp q (row_joints nets ps js) ≡ None
   joint_none [] js q a = refl
   joint_none (p ∷ ps) [] q a = refl
   joint_none (p ∷ ps) (None ∷ js) q a = joint_none ps js q (λ i. a (suc i))
   joint_none (p ∷ ps) (Some i ∷ js) q a =
-      ap (λ b. cond b (Some (net_name nets i)) (find name_cmp q (joints nets ps js))) (cmp_apart q p.0 (λ s. a 0 (ap Some (sym s))))
+      ap (λ b. cond b (Some (net_name nets i)) (find name_cmp q (row_joints nets ps js))) (cmp_apart q p.0 (λ s. a 0 (ap Some (sym s))))
       ∙ joint_none ps js q (λ i. a (suc i))
 
-  pub joint_named : (ps : List (Name × Role)) (js : List (Option ℕ)) (k : ℕ) (p : Name × Role) (j : Option ℕ) → AreApart (map (λ p. p.0) ps) → slice_get ps k ≡ Some p → slice_get js k ≡ Some j → find name_cmp p.0 (joints nets ps js) ≡ option_map (net_name nets) j
+  pub joint_named : (ps : List (Name × Role)) (js : List (Option ℕ)) (k : ℕ) (p : Name × Role) (j : Option ℕ) → AreDistinctNames (map (λ p. p.0) ps) → slice_get ps k ≡ Some p → slice_get js k ≡ Some j → find name_cmp p.0 (row_joints nets ps js) ≡ option_map (net_name nets) j
   joint_named [] js k p j a e f = absurd (not_None (sym e))
   joint_named (x ∷ ps) [] k p j a e f = absurd (not_None (sym f))
   joint_named (x ∷ ps) (None ∷ js) zero p j a e f =
       joint_none ps js p.0 (λ i h. apart_first x.0 (map (λ p. p.0) ps) a i p.0 h (ap (λ p. p.0) (sym (same_Some e))))
       ∙ ap (option_map (net_name nets)) (same_Some f)
   joint_named (x ∷ ps) (Some i ∷ js) zero p j a e f =
-      ap (λ b. cond b (Some (net_name nets i)) (find name_cmp p.0 (joints nets ps js))) (ap (λ y. eq_by_cmp name_cmp y.0 x.0) (sym (same_Some e)) ∙ cmp_itself x.0)
+      ap (λ b. cond b (Some (net_name nets i)) (find name_cmp p.0 (row_joints nets ps js))) (ap (λ y. eq_by_cmp name_cmp y.0 x.0) (sym (same_Some e)) ∙ cmp_itself x.0)
       ∙ ap (option_map (net_name nets)) (same_Some f)
   joint_named (x ∷ ps) (None ∷ js) (suc k) p j a e f = joint_named ps js k p j (apart_rest x.0 (map (λ p. p.0) ps) a) e f
   joint_named (x ∷ ps) (Some i ∷ js) (suc k) p j a e f =
-      ap (λ b. cond b (Some (net_name nets i)) (find name_cmp p.0 (joints nets ps js))) (cmp_apart p.0 x.0 (apart_first x.0 (map (λ p. p.0) ps) a k p.0 (name_of_row (λ p. p.0) ps k p e)))
+      ap (λ b. cond b (Some (net_name nets i)) (find name_cmp p.0 (row_joints nets ps js))) (cmp_apart p.0 x.0 (apart_first x.0 (map (λ p. p.0) ps) a k p.0 (name_of_row (λ p. p.0) ps k p e)))
       ∙ joint_named ps js k p j (apart_rest x.0 (map (λ p. p.0) ps) a) e f
 
-  pub named_joint : (ps : List (Name × Role)) (js : List (Option ℕ)) (q n : Name) → find name_cmp q (joints nets ps js) ≡ Some n → (k : ℕ) × (p : Name × Role) × (i : ℕ) × (slice_get ps k ≡ Some p) × (p.0 ≡ q) × (slice_get js k ≡ Some (Some i)) × (net_name nets i ≡ n)
+  pub named_joint : (ps : List (Name × Role)) (js : List (Option ℕ)) (q n : Name) → find name_cmp q (row_joints nets ps js) ≡ Some n → (k : ℕ) × (p : Name × Role) × (i : ℕ) × (slice_get ps k ≡ Some p) × (p.0 ≡ q) × (slice_get js k ≡ Some (Some i)) × (net_name nets i ≡ n)
   named_joint [] js q n e = absurd (not_None (sym e))
   named_joint (p ∷ ps) [] q n e = absurd (not_None (sym e))
   named_joint (p ∷ ps) (None ∷ js) q n e = let w = named_joint ps js q n e in (suc w.0, w.1, w.2, w.3, w.4, w.5, w.6)
   named_joint (p ∷ ps) (Some i ∷ js) q n e = ⊎_elim
-      (λ s. (0, p, i, refl, sym s, refl, same_Some (find_first (p.0, net_name nets i) (joints nets ps js) q s e)))
-      (λ a. let w = named_joint ps js q n (find_rest (p.0, net_name nets i) (joints nets ps js) q a e) in (suc w.0, w.1, w.2, w.3, w.4, w.5, w.6))
+      (λ s. (0, p, i, refl, sym s, refl, same_Some (find_first (p.0, net_name nets i) (row_joints nets ps js) q s e)))
+      (λ a. let w = named_joint ps js q n (find_rest (p.0, net_name nets i) (row_joints nets ps js) q a e) in (suc w.0, w.1, w.2, w.3, w.4, w.5, w.6))
       (same_name q p.0)
 
 -- ---- a known pin of a component
@@ -93,7 +93,7 @@ module _ (L : Listing) (is : IsListing L) where
   role_is c r k p e f = find_at (pins r) k p (is.rows c r e).kind.apart f
 
   pub joined_is : (c : ℕ) (r : CompRow) (k : ℕ) (p : Name × Role) (j : Option ℕ) → slice_get L.comps c ≡ Some r → slice_get (pins r) k ≡ Some p → slice_get r.joined k ≡ Some j → get (component L.nets r).joined p.0 ≡ option_map (net_name L.nets) j
-  joined_is c r k p j e f g = get-from_entries nat_list_cmp_total (joints L.nets (pins r) r.joined) p.0 ∙ joint_named L.nets (pins r) r.joined k p j (is.rows c r e).kind.apart f g
+  joined_is c r k p j e f g = get-from_entries nat_list_cmp_total (row_joints L.nets (pins r) r.joined) p.0 ∙ joint_named L.nets (pins r) r.joined k p j (is.rows c r e).kind.apart f g
 
   -- what stands under a component's name
   pub comp_of : (q : Name) (x : Component) → get (netlist L).comps q ≡ Some x → (c : ℕ) × (r : CompRow) × (slice_get L.comps c ≡ Some r) × (r.name ≡ q) × (component L.nets r ≡ x)

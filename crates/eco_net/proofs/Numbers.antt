@@ -6,7 +6,7 @@ use Rattle.eco_net.specs.declared.ids.PinRef.TheVariants.{Top, Pin}
 use Rattle.eco_net.specs.declared.rows.CompRow.{CompRow}
 use Rattle.eco_net.specs.declared.rows.TopRow.{TopRow}
 use Rattle.eco_net.specs.Netlist.{Name, TopPin, CompPin, Role}
-use Rattle.eco_net.specs.Listing.{Listing, pins, pin_at, pin_named, HasPin, IsKnownPin, rejoined}
+use Rattle.eco_net.specs.Listing.{Listing, pins, pin_at, numbered_pin, HasPin, IsKnownPin, rejoined}
 use Rattle.eco_net.proofs.Basics.{same_Some, not_None}
 use Rattle.eco_net.proofs.Places.{has_pin_row}
 use Rattle.std.proofs.lemmas.Option.{slice_get_within}
@@ -28,7 +28,7 @@ module _ (L : Listing) (row : CompRow) where
   pub new_pin_known : (k : ℕ) → k < length (pins row) → IsKnownPin more (Pin (record { 0 = length L.comps }) k)
   new_pin_known k h = subst (λ o. HasPin o k) (sym (push_last L.comps row)) h
 
-  pub new_pin_named : (k : ℕ) (p : Name × Role) → slice_get (pins row) k ≡ Some p → pin_named more (Pin (record { 0 = length L.comps }) k) ≡ CompPin row.name p.0
+  pub new_pin_named : (k : ℕ) (p : Name × Role) → slice_get (pins row) k ≡ Some p → numbered_pin more (Pin (record { 0 = length L.comps }) k) ≡ CompPin row.name p.0
   new_pin_named k p e = ap (λ o. pin_at o k) (push_last L.comps row) ∙ ap (λ o. CompPin row.name (unwrap_or (option_map (λ p. p.0) o) [])) e
 
   -- pins that were known
@@ -36,7 +36,7 @@ module _ (L : Listing) (row : CompRow) where
   old_pin_known (Top t) h = h
   old_pin_known (Pin c k) h = let w = has_pin_row (slice_get L.comps c.0) k h in subst (λ o. HasPin o k) (sym (push_old L.comps row c.0 w.0 w.1)) w.2
 
-  pub old_pin_named : (p : PinRef) → IsKnownPin L p → pin_named more p ≡ pin_named L p
+  pub old_pin_named : (p : PinRef) → IsKnownPin L p → numbered_pin more p ≡ numbered_pin L p
   old_pin_named (Top t) h = refl
   old_pin_named (Pin c k) h = let w = has_pin_row (slice_get L.comps c.0) k h in ap (λ o. pin_at o k) (push_old L.comps row c.0 w.0 w.1 ∙ sym w.1)
 
@@ -91,7 +91,7 @@ module _ (L : Listing) (c k : ℕ) (j : Option ℕ) where
   abbrev changed : Listing
   changed = record L { comps = rejoined L.comps c k j }
 
-  pub same_pin_named : (p : PinRef) → pin_named changed p ≡ pin_named L p
+  pub same_pin_named : (p : PinRef) → numbered_pin changed p ≡ numbered_pin L p
   same_pin_named (Top t) = refl
   same_pin_named (Pin d i) = rejoined_pin L.comps c k j d.0 i
 
@@ -109,7 +109,7 @@ module _ (L : Listing) (row : TopRow) where
   top_pin_known (Top t) h = let w = at_place L.tops t.0 h in slice_get_within (L.tops ++ row ∷ []) t.0 w.0 (push_old L.tops row t.0 w.0 w.1)
   top_pin_known (Pin c k) h = h
 
-  pub top_pin_named : (p : PinRef) → IsKnownPin L p → pin_named wider p ≡ pin_named L p
+  pub top_pin_named : (p : PinRef) → IsKnownPin L p → numbered_pin wider p ≡ numbered_pin L p
   top_pin_named (Top t) h =
       let w = at_place L.tops t.0 h in
       ap (λ o. TopPin (unwrap_or (option_map (λ (r : TopRow). r.name) o) [])) (push_old L.tops row t.0 w.0 w.1 ∙ sym w.1)

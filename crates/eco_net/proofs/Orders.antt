@@ -5,8 +5,8 @@ use Rattle.eco_net.specs.Netlist.{Name, name_cmp}
 use Rattle.eco_net.specs.Walks.{ReadsNet, IsLoopFree, Onward}
 use Rattle.eco_net.specs.Listing.{Listing, netlist}
 use Rattle.eco_net.specs.Kept.{IsListing}
-use Rattle.eco_net.specs.Gates.{Reads}
-use Rattle.eco_net.specs.Search.{Settled, IsOrder, Around, IsRing}
+use Rattle.eco_net.specs.Gates.{FeedsNet}
+use Rattle.eco_net.specs.Search.{AreSettled, IsEvaluationOrder, Around, IsRing}
 use Rattle.eco_net.proofs.Basics.{Has, cmp_itself, cmp_apart}
 use Rattle.eco_net.proofs.GateNames.{nm, reads_named, named_reads, number_of, computed_known}
 use Rattle.eco_net.proofs.Searching.{same_number}
@@ -36,7 +36,7 @@ module _ (L : Listing) (is : IsListing L) where
   at_rest : (n a : ℕ) (ns : List ℕ) → n < length L.nets → a < length L.nets → a ≢ n → at (n ∷ ns) a ≡ suc (at ns a)
   at_rest n a ns k h d = pos_later (nm L is n) (nm L is a) (map (nm L is) ns) (λ e. d (same_net L is a n h k e))
 
-  rises : (before ns : List ℕ) (a b : ℕ) → ((x : ℕ) → Has ns x → x < length L.nets) → Settled L before ns → Reads L a b → Has ns b → Has before a ⊎ (at ns a < at ns b)
+  rises : (before ns : List ℕ) (a b : ℕ) → ((x : ℕ) → Has ns x → x < length L.nets) → AreSettled L before ns → FeedsNet L a b → Has ns b → Has before a ⊎ (at ns a < at ns b)
   rises before [] a b k s r h = absurd h
   rises before (n ∷ ns) a b k s r h = by_b (same_number b n) (λ i. rises (n ∷ before) ns a b (λ x j. k x (inr j)) s.1 r i)
     where
@@ -62,11 +62,11 @@ module _ (L : Listing) (is : IsListing L) where
       rest d (inr l) = inr (by_a d l (same_number a n))
 
       by_b : (b ≡ n) ⊎ (b ≢ n) → (Has ns b → ((n ≡ a) ⊎ Has before a) ⊎ (at ns a < at ns b)) → Has before a ⊎ (at (n ∷ ns) a < at (n ∷ ns) b)
-      by_b (inl e) f = inl (s.0 a (subst (Reads L a) e r))
+      by_b (inl e) f = inl (s.0 a (subst (FeedsNet L a) e r))
       by_b (inr d) f = rest d (f (⊎_elim (λ e. absurd (d (sym e))) (λ i. i) h))
 
   -- an order shows that there is no loop
-  pub order_loop_free : (order : List ℕ) → IsOrder L order → IsLoopFree (netlist L)
+  pub order_loop_free : (order : List ℕ) → IsEvaluationOrder L order → IsLoopFree (netlist L)
   order_loop_free order o = ranked_loop_free (netlist L) (pos (map (nm L is) order)) (λ p q w.
       let a = number_of L is p w.from in
       let b = number_of L is q (w.table, w.inputs, w.to) in

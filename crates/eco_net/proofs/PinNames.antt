@@ -11,7 +11,7 @@ use Rattle.eco_net.specs.declared.ids.PinRef.{PinRef}
 use Rattle.eco_net.specs.declared.ids.PinRef.TheVariants.{Top as TopNumber, Pin as PinNumber}
 use Rattle.eco_net.specs.Netlist.{Name, Component, Top, Pin, TopPin, CompPin, Role, role_of}
 use Rattle.eco_net.specs.Drivers.{driven, driven_at, driven_top, drives_inward, is_driving, net_of, joined_at}
-use Rattle.eco_net.specs.Listing.{Listing, netlist, pins, net_name, pin_at, pin_named, HasPin, IsKnownPin}
+use Rattle.eco_net.specs.Listing.{Listing, netlist, pins, net_name, pin_at, numbered_pin, HasPin, IsKnownPin}
 use Rattle.eco_net.specs.Kept.{IsListing}
 use Rattle.eco_net.specs.ByNumber.{joint_at, role_at, end_of, drives_end, net_at, drives}
 use Rattle.eco_net.proofs.Basics.{same_Some, not_None}
@@ -66,7 +66,7 @@ module _ (L : Listing) (is : IsListing L) where
   pin_joined c k w = ap (λ o. joined_at o w.pin.0) (comp_is L is c w.row w.is) ∙ joined_is L is c w.row k w.pin w.net w.is w.at w.joint
 
   -- the net that a known pin is on
-  pub net_named : (p : PinRef) → IsKnownPin L p → net_of (netlist L) (pin_named L p) ≡ option_map (net_name L.nets) (net_at L p)
+  pub net_named : (p : PinRef) → IsKnownPin L p → net_of (netlist L) (numbered_pin L p) ≡ option_map (net_name L.nets) (net_at L p)
   net_named (TopNumber t) h =
       let w = top_row L t.0 h in
       ap (net_of (netlist L)) (top_name_is L t.0 w)
@@ -92,7 +92,7 @@ module _ (L : Listing) (is : IsListing L) where
   top_pushed false n = refl
 
   -- the net that a known pin drives
-  pub driven_named : (p : PinRef) → IsKnownPin L p → driven (netlist L) (pin_named L p) ≡ option_map (net_name L.nets) (drives_net L p)
+  pub driven_named : (p : PinRef) → IsKnownPin L p → driven (netlist L) (numbered_pin L p) ≡ option_map (net_name L.nets) (drives_net L p)
   driven_named (TopNumber t) h =
       let w = top_row L t.0 h in
       ap (driven (netlist L)) (top_name_is L t.0 w)
@@ -109,17 +109,17 @@ module _ (L : Listing) (is : IsListing L) where
   -- ---- from names to numbers
 
   -- a pin on a net is a known one
-  pub pin_on : (q : Pin) (n : Name) → net_of (netlist L) q ≡ Some n → (p : PinRef) × IsKnownPin L p × (pin_named L p ≡ q)
+  pub pin_on : (q : Pin) (n : Name) → net_of (netlist L) q ≡ Some n → (p : PinRef) × IsKnownPin L p × (numbered_pin L p ≡ q)
   pin_on (TopPin t) n e = go (get (netlist L).tops t) refl e
     where
-      go : (o : Option Top) → get (netlist L).tops t ≡ o → option_map (λ x. x.net) o ≡ Some n → (p : PinRef) × IsKnownPin L p × (pin_named L p ≡ TopPin t)
+      go : (o : Option Top) → get (netlist L).tops t ≡ o → option_map (λ x. x.net) o ≡ Some n → (p : PinRef) × IsKnownPin L p × (numbered_pin L p ≡ TopPin t)
       go None f e = absurd (not_None (sym e))
       go (Some x) f e =
           let w = top_of L is t x f in
           (TopNumber (record { 0 = w.0 }), slice_get_within L.tops w.0 w.1 w.2, ap (λ o. TopPin (unwrap_or (option_map (λ r. r.name) o) [])) w.2 ∙ ap TopPin w.3)
   pin_on (CompPin c q) n e = go (get (netlist L).comps c) refl e
     where
-      go : (o : Option Component) → get (netlist L).comps c ≡ o → joined_at o q ≡ Some n → (p : PinRef) × IsKnownPin L p × (pin_named L p ≡ CompPin c q)
+      go : (o : Option Component) → get (netlist L).comps c ≡ o → joined_at o q ≡ Some n → (p : PinRef) × IsKnownPin L p × (numbered_pin L p ≡ CompPin c q)
       go None f e = absurd (not_None (sym e))
       go (Some x) f e =
           let w = comp_of L is c x f in
@@ -150,7 +150,7 @@ module _ (L : Listing) (is : IsListing L) where
       go (Some x) e = with_role (is_driving (role_of x q)) (get x.joined q) e
 
   -- a pin that drives a net is a known one
-  pub pin_driving : (q : Pin) (n : Name) → driven (netlist L) q ≡ Some n → (p : PinRef) × IsKnownPin L p × (pin_named L p ≡ q)
+  pub pin_driving : (q : Pin) (n : Name) → driven (netlist L) q ≡ Some n → (p : PinRef) × IsKnownPin L p × (numbered_pin L p ≡ q)
   pin_driving q n e = pin_on q n (driven_on q n e)
 
   -- ---- one number for each name
@@ -188,7 +188,7 @@ module _ (L : Listing) (is : IsListing L) where
   top_apart t c k g h e = let a = pin_row L is c k h in let s = e ∙ pin_name_is L c k a in cc
 
   -- a known pin has one number
-  pub same_pin : (p q : PinRef) → IsKnownPin L p → IsKnownPin L q → pin_named L p ≡ pin_named L q → p ≡ q
+  pub same_pin : (p q : PinRef) → IsKnownPin L p → IsKnownPin L q → numbered_pin L p ≡ numbered_pin L q → p ≡ q
   same_pin (TopNumber t) (TopNumber u) g h e = ap (λ n. TopNumber (record { 0 = n })) (same_top t.0 u.0 g h e)
   same_pin (TopNumber t) (PinNumber c k) g h e = absurd (top_apart t.0 c.0 k g h e)
   same_pin (PinNumber c k) (TopNumber t) g h e = absurd (top_apart t.0 c.0 k h g (sym e))

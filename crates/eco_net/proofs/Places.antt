@@ -8,7 +8,7 @@ use Rattle.std.specs.Cmp.Lexicographic.{nat_list_cmp_total}
 use Rattle.std.specs.FinMap.{FinMap, get, insert, empty, from_entries, find, get-from_entries, get-empty}
 use Rattle.eco_net.specs.Netlist.{Name, name_cmp}
 use Rattle.eco_net.specs.declared.rows.CompRow.{CompRow}
-use Rattle.eco_net.specs.Listing.{AreApart, HasPin, pins}
+use Rattle.eco_net.specs.Listing.{AreDistinctNames, HasPin, pins}
 use Rattle.eco_net.specs.Kept.{IsIndexOf}
 use Rattle.eco_net.proofs.Basics.{same_Some, not_None, same_name, cmp_itself, cmp_apart, get_same, get_other, find_first, find_rest}
 
@@ -61,7 +61,7 @@ module _ {R X : Type 0} (name : R → Name) (f : R → X) where
   pub row_found : (rows : List R) (q : Name) (x : X) → get (from_entries {R = name_cmp} (map entry rows)) q ≡ Some x → (i : ℕ) × (r : R) × (slice_get rows i ≡ Some r) × (name r ≡ q) × (f r ≡ x)
   row_found rows q x e = row_by rows q x (sym (get-from_entries nat_list_cmp_total (map entry rows) q) ∙ e)
 
-  by_row : (rows : List R) (i : ℕ) (r : R) → AreApart (map name rows) → slice_get rows i ≡ Some r → find name_cmp (name r) (map entry rows) ≡ Some (f r)
+  by_row : (rows : List R) (i : ℕ) (r : R) → AreDistinctNames (map name rows) → slice_get rows i ≡ Some r → find name_cmp (name r) (map entry rows) ≡ Some (f r)
   by_row [] i r a e = absurd (not_None (sym e))
   by_row (s ∷ rows) zero r a e =
       ap (λ b. cond b (Some (f s)) (find name_cmp (name r) (map entry rows))) (ap (λ x. eq_by_cmp name_cmp (name x) (name s)) (sym (same_Some e)) ∙ cmp_itself (name s))
@@ -72,7 +72,7 @@ module _ {R X : Type 0} (name : R → Name) (f : R → X) where
       ∙ by_row rows i r (λ j k n p q. let z : suc j ≡ suc k = a (suc j) (suc k) n p q in omega (arith, z)) e
 
   -- a row's name gives what the row says
-  pub found_row : (rows : List R) (i : ℕ) (r : R) → AreApart (map name rows) → slice_get rows i ≡ Some r → get (from_entries {R = name_cmp} (map entry rows)) (name r) ≡ Some (f r)
+  pub found_row : (rows : List R) (i : ℕ) (r : R) → AreDistinctNames (map name rows) → slice_get rows i ≡ Some r → get (from_entries {R = name_cmp} (map entry rows)) (name r) ≡ Some (f r)
   found_row rows i r a e = get-from_entries nat_list_cmp_total (map entry rows) (name r) ∙ by_row rows i r a e
 
   -- a name that isn't found is none of the rows
@@ -102,10 +102,10 @@ module _ {R X : Type 0} (name : R → Name) (f : R → X) where
 
 -- ---- distinct names
 
-pub apart_nil : AreApart []
+pub apart_nil : AreDistinctNames []
 apart_nil i j n e f = absurd (not_None (sym e))
 
-pub apart_push : (names : List Name) (q : Name) → AreApart names → ((i : ℕ) → slice_get names i ≡ Some q → ⊥) → AreApart (names ++ q ∷ [])
+pub apart_push : (names : List Name) (q : Name) → AreDistinctNames names → ((i : ℕ) → slice_get names i ≡ Some q → ⊥) → AreDistinctNames (names ++ q ∷ [])
 apart_push names q a new i j n e f = ⊎_elim
     (λ x. ⊎_elim (λ y. a i j n x y) (λ y. absurd (new i (x ∙ ap Some (sym y.1)))) (push_cases names q j n f))
     (λ x. ⊎_elim (λ y. absurd (new j (y ∙ ap Some (sym x.1)))) (λ y. x.0 ∙ sym y.0) (push_cases names q j n f))
@@ -119,7 +119,7 @@ none_here n (m ∷ names) zero h e = not_false (sym (cmp_itself n) ∙ ap (eq_by
     not_false e = cc
 none_here n (m ∷ names) (suc j) h e = none_here n names j h.1 e
 
-pub apart_distinct : (names : List Name) → IsDistinct (eq_by_cmp name_cmp) names → AreApart names
+pub apart_distinct : (names : List Name) → IsDistinct (eq_by_cmp name_cmp) names → AreDistinctNames names
 unfolding IsDistinct
 apart_distinct [] d i j n e f = absurd (not_None (sym e))
 apart_distinct (m ∷ names) d zero zero n e f = refl
@@ -147,7 +147,7 @@ index_push names places q index new n i = (forth, back (same_name n q))
         ap (slice_get (names ++ q ∷ [])) (sym z) ∙ push_last names q ∙ ap Some (sym s)
     back (inr a) e = push_old names q i n ((index n i).1 (sym (get_other places q (length names) n a) ∙ e))
 
-pub apart_index : (names : List Name) (places : FinMap name_cmp ℕ) → IsIndexOf names places → AreApart names
+pub apart_index : (names : List Name) (places : FinMap name_cmp ℕ) → IsIndexOf names places → AreDistinctNames names
 apart_index names places index i j n e f = same_Some (sym ((index n i).0 e) ∙ (index n j).0 f)
 
 -- ---- known pins

@@ -10,7 +10,7 @@ use Rattle.std.proofs.lemmas.Map.Lookups.{exact_bytes}
 use Rattle.eco_common.specs.declared.limits.TheConstants.{MAX_LISTED_COMPS}
 use Rattle.eco_net.specs.declared.rows.CompRow.{CompRow}
 use Rattle.eco_net.specs.Netlist.{Name, name_cmp}
-use Rattle.eco_net.specs.Listing.{Listing, netlist, component, AreApart}
+use Rattle.eco_net.specs.Listing.{Listing, netlist, component, AreDistinctNames}
 use Rattle.eco_net.specs.Kept.{IsIndexOf, IsIndexed, IsListing}
 use Rattle.eco_net.specs.Removal.{unmarked_rows, marked_names, without_comps}
 use Rattle.eco_net.proofs.Basics.{not_None, same_of_cmp, cmp_apart}
@@ -36,13 +36,13 @@ left_few (m ∷ ms) [] = omega arith
 left_few (true ∷ ms) (x ∷ rows) = omega (arith, left_few ms rows)
 left_few (false ∷ ms) (x ∷ rows) = omega (arith, left_few ms rows)
 
-apart_cons : (n : Name) (ns : List Name) → AreApart ns → ((i : ℕ) → slice_get ns i ≡ Some n → ⊥) → AreApart (n ∷ ns)
+apart_cons : (n : Name) (ns : List Name) → AreDistinctNames ns → ((i : ℕ) → slice_get ns i ≡ Some n → ⊥) → AreDistinctNames (n ∷ ns)
 apart_cons n ns a new zero zero m e f = refl
 apart_cons n ns a new zero (suc j) m e f = absurd (new j (f ∙ sym e))
 apart_cons n ns a new (suc i) zero m e f = absurd (new i (e ∙ sym f))
 apart_cons n ns a new (suc i) (suc j) m e f = ap suc (a i j m e f)
 
-pub left_apart : (ms : List Bool) (rows : List CompRow) → AreApart (map (λ r. r.name) rows) → AreApart (map (λ r. r.name) (unmarked_rows ms rows))
+pub left_apart : (ms : List Bool) (rows : List CompRow) → AreDistinctNames (map (λ r. r.name) rows) → AreDistinctNames (map (λ r. r.name) (unmarked_rows ms rows))
 left_apart [] rows a = apart_nil
 left_apart (m ∷ ms) [] a = apart_nil
 left_apart (true ∷ ms) (x ∷ rows) a = left_apart ms rows (apart_rest x.name (names rows) a)
@@ -100,7 +100,7 @@ taken (y ∷ xs) (suc n) zero x e = (omega arith, e)
 taken (y ∷ xs) (suc n) (suc i) x e = let w = taken xs n i x e in (omega (arith, w.0), w.1)
 
 -- with one more of the names
-pub index_more : (rows : List CompRow) (n : ℕ) (row : CompRow) (places : FinMap name_cmp ℕ) → n < length rows → row ≡ get_or rows n row → AreApart (map (λ r. r.name) rows) → IsIndexOf (map (λ r. r.name) (take n rows)) places → IsIndexOf (map (λ r. r.name) (take (n + 1) rows)) (insert places row.name n)
+pub index_more : (rows : List CompRow) (n : ℕ) (row : CompRow) (places : FinMap name_cmp ℕ) → n < length rows → row ≡ get_or rows n row → AreDistinctNames (map (λ r. r.name) rows) → IsIndexOf (map (λ r. r.name) (take n rows)) places → IsIndexOf (map (λ r. r.name) (take (n + 1) rows)) (insert places row.name n)
 index_more rows n row places h is a index =
     let more : names (take (n + 1) rows) ≡ names (take n rows) ++ row.name ∷ [] = ap names (take_more rows n row h ∙ ap (λ r. take n rows ++ r ∷ []) (sym is)) ∙ map_push (λ r. r.name) (take n rows) row in
     let long : length (names (take n rows)) ≡ n = length-map (take n rows) (λ r. r.name) ∙ length-take-le n rows (omega (arith, h)) in
@@ -143,7 +143,7 @@ left_step : {X : Type 0} (here any : Bool) (v : X) (all left : Option X) → (he
 left_step true any v all left none e = sym (ap (λ b. cond (not b) (Some v) None) (none refl))
 left_step false any v all left none e = e
 
-find_left : {X : Type 0} (f : CompRow → X) (ms : List Bool) (rows : List CompRow) (q : Name) → length ms ≡ length rows → AreApart (names rows) → find name_cmp q (map (λ r. (r.name, f r)) (unmarked_rows ms rows)) ≡ cond (not (list_any (eq_by_cmp name_cmp q) (marked_names ms rows))) (find name_cmp q (map (λ r. (r.name, f r)) rows)) None
+find_left : {X : Type 0} (f : CompRow → X) (ms : List Bool) (rows : List CompRow) (q : Name) → length ms ≡ length rows → AreDistinctNames (names rows) → find name_cmp q (map (λ r. (r.name, f r)) (unmarked_rows ms rows)) ≡ cond (not (list_any (eq_by_cmp name_cmp q) (marked_names ms rows))) (find name_cmp q (map (λ r. (r.name, f r)) rows)) None
 find_left f [] [] q l a = refl
 find_left f [] (x ∷ rows) q l a = absurd (omega (arith, l))
 find_left f (m ∷ ms) [] q l a = absurd (omega (arith, l))

@@ -6,8 +6,8 @@ use Rattle.std.proofs.lemmas.Option.{slice_get-get_or, slice_get_read}
 use Rattle.eco_net.specs.declared.search.Mark.{Mark}
 use Rattle.eco_net.specs.declared.search.Mark.TheVariants.{Unseen, Open, Done}
 use Rattle.eco_net.specs.Listing.{Listing}
-use Rattle.eco_net.specs.Gates.{Reads}
-use Rattle.eco_net.specs.Search.{IsMark, IsComputedNet, Chain, IsSearch, IsOrder, Around, IsRing, EndsWith}
+use Rattle.eco_net.specs.Gates.{FeedsNet}
+use Rattle.eco_net.specs.Search.{IsMark, IsComputedNet, Chain, IsSearch, IsEvaluationOrder, Around, IsRing, EndsWith}
 use Rattle.eco_net.proofs.Basics.{Has, same_Some, not_None, same_head, has_append_right}
 use Rattle.eco_net.proofs.Places.{at_place}
 use Rattle.eco_net.proofs.AllPins.{split_has}
@@ -83,7 +83,7 @@ reverse_distinct [] d = d
 reverse_distinct (x ∷ xs) d = subst (IsDistinct nat_eq) (sym (reverse-append (x ∷ []) xs)) (distinct_push (reverse xs) x (reverse_distinct xs (rest_distinct x xs d)) (λ h. first_apart x xs d (has_reverse xs x h)))
 
 -- a net of the path that the last one's driver reads closes a ring
-pub ring_is : (L : Listing) (path front front' rest : List ℕ) (n a : ℕ) → Chain L path → IsDistinct nat_eq path → path ≡ front' ++ n ∷ [] → path ≡ front ++ a ∷ rest → Reads L a n → IsRing L (reverse (a ∷ rest))
+pub ring_is : (L : Listing) (path front front' rest : List ℕ) (n a : ℕ) → Chain L path → IsDistinct nat_eq path → path ≡ front' ++ n ∷ [] → path ≡ front ++ a ∷ rest → FeedsNet L a n → IsRing L (reverse (a ∷ rest))
 ring_is L path front front' rest n a chain distinct e f r =
     let w = backwards L a rest n (back_chain L front (a ∷ rest) (subst (Chain L) f chain)) r in
     let whole : n ∷ reverse front' ≡ w.top ∷ (w.rest ++ reverse front) =
@@ -103,7 +103,7 @@ last_known L ms path order is n e = let c = is.path_computed n (last_has path n 
 pub last_marked : (L : Listing) (ms : List Mark) (path order : List ℕ) → IsSearch L ms path order → (n : ℕ) → EndsWith path n → n < length ms
 last_marked L ms path order is n e = omega (arith, last_known L ms path order is n e, is.sized)
 
-pub met_marked : (L : Listing) (ms : List Mark) (path order : List ℕ) → IsSearch L ms path order → (a n : ℕ) → Reads L a n → a < length ms
+pub met_marked : (L : Listing) (ms : List Mark) (path order : List ℕ) → IsSearch L ms path order → (a n : ℕ) → FeedsNet L a n → a < length ms
 met_marked L ms path order is a n r = omega (arith, computed_known L a r.source r.from, is.sized)
 
 pub unseen_is : (m : Mark) → (m ≡ Open → ⊥) → (m ≡ Done → ⊥) → m ≡ Unseen
@@ -145,7 +145,7 @@ begun L = record {
   settled = tt;
 }
 
-pub ordered : (L : Listing) (ms : List Mark) (path order : List ℕ) → IsSearch L ms path order → path ≡ [] → ((n : ℕ) → n < length L.nets → IsComputedNet L n → IsMark ms n Unseen → ⊥) → IsOrder L order
+pub ordered : (L : Listing) (ms : List Mark) (path order : List ℕ) → IsSearch L ms path order → path ≡ [] → ((n : ℕ) → n < length L.nets → IsComputedNet L n → IsMark ms n Unseen → ⊥) → IsEvaluationOrder L order
 ordered L ms path order is e seen = record {
   settled = is.settled;
   computed = is.order_computed;

@@ -10,9 +10,9 @@ use Rattle.std.proofs.lemmas.Option.{slice_get_within, get_or_from_slice_get}
 use Rattle.eco_net.specs.declared.search.Mark.{Mark}
 use Rattle.eco_net.specs.declared.search.Mark.TheVariants.{Unseen, Open, Done}
 use Rattle.eco_net.specs.Listing.{Listing}
-use Rattle.eco_net.specs.Gates.{Reads}
+use Rattle.eco_net.specs.Gates.{FeedsNet}
 use Rattle.eco_net.specs.Among.{Has}
-use Rattle.eco_net.specs.Search.{IsMark, weight, IsComputedNet, ChainFrom, Chain, Settled, IsSearch, Stays, Around}
+use Rattle.eco_net.specs.Search.{IsMark, weight, IsComputedNet, ChainFrom, Chain, AreSettled, IsSearch, Stays, Around}
 use Rattle.eco_net.proofs.Basics.{same_Some, not_None, has_append_left, has_append_right}
 use Rattle.eco_net.proofs.AllPins.{split_has}
 
@@ -96,11 +96,11 @@ pub pop_chain : (L : Listing) (xs ys : List ℕ) → Chain L (xs ++ ys) → Chai
 pop_chain L [] ys c = tt
 pop_chain L (x ∷ xs) ys c = chain_front L x xs ys c
 
-chain_push : (L : Listing) (b : ℕ) (xs : List ℕ) (n a : ℕ) → ChainFrom L b (xs ++ n ∷ []) → Reads L a n → ChainFrom L b ((xs ++ n ∷ []) ++ a ∷ [])
+chain_push : (L : Listing) (b : ℕ) (xs : List ℕ) (n a : ℕ) → ChainFrom L b (xs ++ n ∷ []) → FeedsNet L a n → ChainFrom L b ((xs ++ n ∷ []) ++ a ∷ [])
 chain_push L b [] n a c r = (c.0, (r, tt))
 chain_push L b (x ∷ xs) n a c r = (c.0, chain_push L x xs n a c.1 r)
 
-pub push_chain : (L : Listing) (front : List ℕ) (n a : ℕ) → Chain L (front ++ n ∷ []) → Reads L a n → Chain L ((front ++ n ∷ []) ++ a ∷ [])
+pub push_chain : (L : Listing) (front : List ℕ) (n a : ℕ) → Chain L (front ++ n ∷ []) → FeedsNet L a n → Chain L ((front ++ n ∷ []) ++ a ∷ [])
 push_chain L [] n a c r = (r, tt)
 push_chain L (x ∷ front) n a c r = chain_push L x front n a c r
 
@@ -118,7 +118,7 @@ back_chain L (x ∷ xs) ys c = go x xs c
 
 -- ---- an order that is settled
 
-more_settled : (L : Listing) (before : List ℕ) (ns : List ℕ) (n : ℕ) → Settled L before ns → ((a : ℕ) → Reads L a n → Has before a ⊎ Has ns a) → Settled L before (ns ++ n ∷ [])
+more_settled : (L : Listing) (before : List ℕ) (ns : List ℕ) (n : ℕ) → AreSettled L before ns → ((a : ℕ) → FeedsNet L a n → Has before a ⊎ Has ns a) → AreSettled L before (ns ++ n ∷ [])
 more_settled L before [] n s h = (λ a r. ⊎_elim (λ i. i) (λ i. absurd i) (h a r), tt)
 more_settled L before (m ∷ ns) n s h = (s.0, more_settled L (m ∷ before) ns n s.1 (λ a r. ⊎_elim (λ i. inl (inr i)) (λ i. ⊎_elim (λ e. inl (inl e)) (λ j. inr j) i) (h a r)))
 
@@ -152,7 +152,7 @@ module _ (L : Listing) (ms : List Mark) (path order : List ℕ) (is : IsSearch L
       done_back n (inl e) i = absurd (open_done (one_mark (slice_set ms a Open) a Open Done (mark_same ms a Open Unseen u) (subst (λ k. IsMark (slice_set ms a Open) k Done) e i)))
       done_back n (inr d) i = (is.finished n).1 (sym (mark_other ms a n Open d) ∙ i)
 
-  pub left : (front : List ℕ) (n : ℕ) → path ≡ front ++ n ∷ [] → ((a : ℕ) → Reads L a n → IsMark ms a Done) → IsSearch L (slice_set ms n Done) front (order ++ n ∷ [])
+  pub left : (front : List ℕ) (n : ℕ) → path ≡ front ++ n ∷ [] → ((a : ℕ) → FeedsNet L a n → IsMark ms a Done) → IsSearch L (slice_set ms n Done) front (order ++ n ∷ [])
   left front n e reads = record {
     sized = length-set ms n Done ∙ is.sized;
     on_path = λ k. (forth k, back k (same_number k n));
@@ -208,7 +208,7 @@ lighter ms n m x e h =
 
 -- ---- a ring
 
-around_push : (L : Listing) (t : ℕ) (zs : List ℕ) (b q : ℕ) → Around L t zs b → Reads L b q → Around L t (zs ++ b ∷ []) q
+around_push : (L : Listing) (t : ℕ) (zs : List ℕ) (b q : ℕ) → Around L t zs b → FeedsNet L b q → Around L t (zs ++ b ∷ []) q
 around_push L t [] b q a r = (a, r)
 around_push L t (z ∷ zs) b q a r = (a.0, around_push L z zs b q a.1 r)
 
@@ -219,7 +219,7 @@ pub record Back (L : Listing) (b : ℕ) (ns : List ℕ) (q : ℕ) : Type 0 where
   pub is : reverse (b ∷ ns) ≡ top ∷ rest
   pub around : Around L top rest q
 
-pub backwards : (L : Listing) (b : ℕ) (ns : List ℕ) (q : ℕ) → ChainFrom L b ns → Reads L b q → Back L b ns q
+pub backwards : (L : Listing) (b : ℕ) (ns : List ℕ) (q : ℕ) → ChainFrom L b ns → FeedsNet L b q → Back L b ns q
 backwards L b [] q c r = record { top = b; rest = []; is = refl; around = r }
 backwards L b (a ∷ ns) q c r =
     let w = backwards L a ns b c.1 c.0 in

@@ -19,9 +19,9 @@ use Rattle.eco_net.specs.declared.ids.PinRef.{PinRef}
 use Rattle.eco_net.specs.declared.ids.PinRef.TheVariants.{Top, Pin}
 use Rattle.eco_net.specs.declared.observables.Seen.{Seen}
 use Rattle.eco_net.specs.declared.observables.Seen.TheVariants.{AtChip, AtBox, AtGate}
-use Rattle.eco_net.specs.Netlist.{Role, Reads, Computes, Outside, TopPin}
+use Rattle.eco_net.specs.Netlist.{Role, GateInput, GateOutput, BoxedPin, TopPin}
 use Rattle.eco_net.specs.Observables.{ObservedRole, ObservedTop, ObservedAt, IsObservable}
-use Rattle.eco_net.specs.Listing.{Listing, netlist, net_name, pin_named, IsKnownPin}
+use Rattle.eco_net.specs.Listing.{Listing, netlist, net_name, numbered_pin, IsKnownPin}
 use Rattle.eco_net.specs.Kept.{IsListing}
 use Rattle.eco_net.specs.ByNumber.{joint_at, role_at, tops_to, comp_pins}
 use Rattle.eco_net.specs.KeysOf.{key_at}
@@ -76,25 +76,25 @@ module _ (L : Listing) where
 
   box_kind : (o : Option Role) (j : Option ℕ) → seen_role L o j ≡ Some AtBox → kind_number o ≡ 1
   box_kind None j e = refl
-  box_kind (Some Reads) j e = refl
-  box_kind (Some (Computes t)) j e = absurd (free_apart j gate_or_box e)
-  box_kind (Some (Outside d)) j e = refl
+  box_kind (Some GateInput) j e = refl
+  box_kind (Some (GateOutput t)) j e = absurd (free_apart j gate_or_box e)
+  box_kind (Some (BoxedPin d)) j e = refl
 
   gate_kind : (o : Option Role) (j : Option ℕ) → seen_role L o j ≡ Some AtGate → kind_number o ≡ 2
   gate_kind None j e = absurd (not_None (sym e))
-  gate_kind (Some Reads) j e = absurd (not_None (sym e))
-  gate_kind (Some (Computes t)) j e = refl
-  gate_kind (Some (Outside Input)) j e = absurd (box_or_gate (same_Some e))
-  gate_kind (Some (Outside Output)) j e = absurd (not_None (sym e))
-  gate_kind (Some (Outside Inout)) j e = absurd (box_or_gate (same_Some e))
+  gate_kind (Some GateInput) j e = absurd (not_None (sym e))
+  gate_kind (Some (GateOutput t)) j e = refl
+  gate_kind (Some (BoxedPin Input)) j e = absurd (box_or_gate (same_Some e))
+  gate_kind (Some (BoxedPin Output)) j e = absurd (not_None (sym e))
+  gate_kind (Some (BoxedPin Inout)) j e = absurd (box_or_gate (same_Some e))
 
   no_chip : (o : Option Role) (j : Option ℕ) → seen_role L o j ≡ Some AtChip → ⊥
   no_chip None j e = not_None (sym e)
-  no_chip (Some Reads) j e = not_None (sym e)
-  no_chip (Some (Computes t)) j e = free_apart j gate_or_chip e
-  no_chip (Some (Outside Input)) j e = box_or_chip (same_Some e)
-  no_chip (Some (Outside Output)) j e = not_None (sym e)
-  no_chip (Some (Outside Inout)) j e = box_or_chip (same_Some e)
+  no_chip (Some GateInput) j e = not_None (sym e)
+  no_chip (Some (GateOutput t)) j e = free_apart j gate_or_chip e
+  no_chip (Some (BoxedPin Input)) j e = box_or_chip (same_Some e)
+  no_chip (Some (BoxedPin Output)) j e = not_None (sym e)
+  no_chip (Some (BoxedPin Inout)) j e = box_or_chip (same_Some e)
 
 -- ---- what is seen by number is observable by name
 
@@ -123,28 +123,28 @@ module _ (L : Listing) (is : IsListing L) where
   Known j = (n : ℕ) → j ≡ Some n → n < length L.nets
 
   role_seen : (r : Role) (j : Option ℕ) → Known j → (s : Seen) → seen_role L (Some r) j ≡ Some s → ObservedRole (netlist L) (Some r) (option_map (net_name L.nets) j)
-  role_seen Reads j h s e = absurd (not_None (sym e))
-  role_seen (Computes t) None h s e = absurd (not_None (sym e))
-  role_seen (Computes t) (Some n) h s e = go (key_at L n) refl e
+  role_seen GateInput j h s e = absurd (not_None (sym e))
+  role_seen (GateOutput t) None h s e = absurd (not_None (sym e))
+  role_seen (GateOutput t) (Some n) h s e = go (key_at L n) refl e
     where
-      go : (o : Option CutKey) → key_at L n ≡ o → option_map (λ key. AtGate) o ≡ Some s → ObservedRole (netlist L) (Some (Computes t)) (Some (net_name L.nets n))
+      go : (o : Option CutKey) → key_at L n ≡ o → option_map (λ key. AtGate) o ≡ Some s → ObservedRole (netlist L) (Some (GateOutput t)) (Some (net_name L.nets n))
       go None f g = absurd (not_None (sym g))
       go (Some key) f g = (keyed L is n (h n refl) key f).0
-  role_seen (Outside Input) j h s e = tt
-  role_seen (Outside Output) j h s e = absurd (not_None (sym e))
-  role_seen (Outside Inout) j h s e = tt
+  role_seen (BoxedPin Input) j h s e = tt
+  role_seen (BoxedPin Output) j h s e = absurd (not_None (sym e))
+  role_seen (BoxedPin Inout) j h s e = tt
 
   seen_by : (r : Role) (j : Option ℕ) → Known j → ObservedRole (netlist L) (Some r) (option_map (net_name L.nets) j) → (s : Seen) × (seen_role L (Some r) j ≡ Some s)
-  seen_by Reads j h o = absurd o
-  seen_by (Computes t) None h o = absurd o
-  seen_by (Computes t) (Some n) h o = go (key_at L n) refl
+  seen_by GateInput j h o = absurd o
+  seen_by (GateOutput t) None h o = absurd o
+  seen_by (GateOutput t) (Some n) h o = go (key_at L n) refl
     where
       go : (k : Option CutKey) → key_at L n ≡ k → (s : Seen) × (option_map (λ key. AtGate) k ≡ Some s)
       go None f = absurd (unkeyed L is n (h n refl) f o)
       go (Some key) f = (AtGate, refl)
-  seen_by (Outside Input) j h o = (AtBox, refl)
-  seen_by (Outside Output) j h o = absurd o
-  seen_by (Outside Inout) j h o = (AtBox, refl)
+  seen_by (BoxedPin Input) j h o = (AtBox, refl)
+  seen_by (BoxedPin Output) j h o = absurd o
+  seen_by (BoxedPin Inout) j h o = (AtBox, refl)
 
   known_joint : (c k : ℕ) (w : PinRow L c k) → Known w.net
   known_joint c k w n e = (is.rows c w.row w.is).known k n (w.joint ∙ ap Some e)
@@ -152,7 +152,7 @@ module _ (L : Listing) (is : IsListing L) where
   role_is_seen : (c k : ℕ) (w : PinRow L c k) → seen_role L (role_at (slice_get L.comps c) k) (joint_at (slice_get L.comps c) k) ≡ seen_role L (Some w.pin.1) w.net
   role_is_seen c k w = ap₂ (seen_role L) (pin_role_is L c k w) (pin_net_is L c k w)
 
-  pub seen_named : (p : PinRef) → IsKnownPin L p → (s : Seen) → seen_at L p ≡ Some s → IsObservable (netlist L) (pin_named L p)
+  pub seen_named : (p : PinRef) → IsKnownPin L p → (s : Seen) → seen_at L p ≡ Some s → IsObservable (netlist L) (numbered_pin L p)
   seen_named (Top t) h s e =
       let w = top_row L t.0 h in
       subst (IsObservable (netlist L)) (sym (top_name_is L t.0 w)) (subst (λ A. A) (sym (top_observed t.0 w)) (dir_seen w.row w.row.dir refl s (sym (ap seen_top w.is) ∙ e)))
@@ -160,7 +160,7 @@ module _ (L : Listing) (is : IsListing L) where
       let w = pin_row L is c.0 k h in
       subst (IsObservable (netlist L)) (sym (pin_name_is L c.0 k w)) (subst (λ A. A) (sym (pin_observed c.0 k w)) (role_seen w.pin.1 w.net (known_joint c.0 k w) s (sym (role_is_seen c.0 k w) ∙ e)))
 
-  pub named_seen : (p : PinRef) → IsKnownPin L p → IsObservable (netlist L) (pin_named L p) → (s : Seen) × (seen_at L p ≡ Some s)
+  pub named_seen : (p : PinRef) → IsKnownPin L p → IsObservable (netlist L) (numbered_pin L p) → (s : Seen) × (seen_at L p ≡ Some s)
   named_seen (Top t) h o =
       let w = top_row L t.0 h in
       (AtChip, ap seen_top w.is ∙ seen_dir w.row w.row.dir refl (subst (λ A. A) (top_observed t.0 w) (subst (IsObservable (netlist L)) (top_name_is L t.0 w) o)))

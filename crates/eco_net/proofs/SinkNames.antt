@@ -9,7 +9,7 @@ use Rattle.std.proofs.lemmas.List.Kept.{IsStrictlySortedBy-filter}
 use Rattle.eco_net.specs.declared.ids.PinRef.{PinRef}
 use Rattle.eco_net.specs.declared.ids.PinRef.TheVariants.{Top, Pin}
 use Rattle.eco_net.specs.Drivers.{IsSink, net_of}
-use Rattle.eco_net.specs.Listing.{Listing, netlist, net_name, pin_named, IsKnownPin}
+use Rattle.eco_net.specs.Listing.{Listing, netlist, net_name, numbered_pin, IsKnownPin}
 use Rattle.eco_net.specs.Kept.{IsListing}
 use Rattle.eco_net.specs.ByNumber.{net_at, is_on, all_pins, pins_on, driver_at}
 use Rattle.eco_net.specs.PinOrder.{pin_number, pin_order}
@@ -56,24 +56,24 @@ is_other_by (Some d) p h = go (eq_by_cmp pin_order d p) refl
     go false e = refl
 
 module _ (L : Listing) (is : IsListing L) (n : ℕ) (h : n < length L.nets) where
-  on_it : (p : PinRef) → IsKnownPin L p → net_of (netlist L) (pin_named L p) ≡ Some (net_name L.nets n) → net_at L p ≡ Some n
+  on_it : (p : PinRef) → IsKnownPin L p → net_of (netlist L) (numbered_pin L p) ≡ Some (net_name L.nets n) → net_at L p ≡ Some n
   on_it p k e = go (net_at L p) refl (sym (net_named L is p k) ∙ e)
     where
       go : (o : Option ℕ) → net_at L p ≡ o → option_map (net_name L.nets) o ≡ Some (net_name L.nets n) → net_at L p ≡ Some n
       go None f g = absurd (not_None (sym g))
       go (Some m) f g = f ∙ ap Some (same_net L is m n (known_net L is p m k f) h (same_Some g))
 
-  sink_of : (p : PinRef) → Has (sinks_of L n) p → IsSink (netlist L) (net_name L.nets n) (pin_named L p)
+  sink_of : (p : PinRef) → Has (sinks_of L n) p → IsSink (netlist L) (net_name L.nets n) (numbered_pin L p)
   sink_of p i =
       let w = filter_has (is_other (driver_at L n)) (pins_on L n) p i in
       let v = filter_has (is_on L n) (all_pins L) p w.0 in
       let k = known_has L p v.0 in (
         net_named L is p k ∙ ap (option_map (net_name L.nets)) (on_net (net_at L p) n v.1),
-        λ d. let q = driver_number L is n (pin_named L p) h d in
+        λ d. let q = driver_number L is n (numbered_pin L p) h d in
             other_is (driver_at L n) p w.1 (q.1 ∙ ap Some (same_pin L is q.0 p q.2 k q.3)),
       )
 
-  of_sink : (p : PinRef) → IsKnownPin L p → IsSink (netlist L) (net_name L.nets n) (pin_named L p) → Has (sinks_of L n) p
+  of_sink : (p : PinRef) → IsKnownPin L p → IsSink (netlist L) (net_name L.nets n) (numbered_pin L p) → Has (sinks_of L n) p
   of_sink p k s = has_filter (is_other (driver_at L n)) (pins_on L n) p
       (has_filter (is_on L n) (all_pins L) p (has_known L p k) (net_on (net_at L p) n (on_it p k s.0)))
       (is_other_by (driver_at L n) p (λ e. s.1 (driver_named L is n p h e).1))

@@ -16,7 +16,7 @@ use Rattle.eco_net.specs.CutKeys.{CutKey, PinKey, NetKey, KeyOf, key_cmp}
 use Rattle.eco_net.specs.Valuation.{IsValuation, table_value, read}
 use Rattle.eco_net.specs.Listing.{Listing, netlist, net_names}
 use Rattle.eco_net.specs.Kept.{IsListing}
-use Rattle.eco_net.specs.Gates.{GatePin, computed_by, inputs_in, inputs_at, input_count}
+use Rattle.eco_net.specs.Gates.{GatePin, computed_by, gate_inputs, inputs_at, input_count}
 use Rattle.eco_net.specs.KeysOf.{key_at, keys_of, key_named}
 use Rattle.eco_net.specs.ValuesOf.{valuation, cut_bits, keys_before, start_by, start_row, start, bit_of, by_role, computes, IsValued}
 use Rattle.eco_net.proofs.Basics.{Has, same_Some, not_None, map_agree}
@@ -125,7 +125,7 @@ module _ (L : Listing) (is : IsListing L) where
   inputs_known : (n : ℕ) (g : GatePin) → GateIs L n g → (j : Option ℕ) → Has (inputs_at L g.0.0) j → (a : ℕ) → j ≡ Some a → a < length L.nets
   inputs_known n g w j h a e =
       let p = at_has (inputs_at L g.0.0) j h in
-      let q = taken_at (input_count w.comp.kind) w.comp.joined p.0 j (sym (ap (λ o. slice_get (inputs_in o) p.0) w.at) ∙ p.1) in
+      let q = taken_at (input_count w.comp.kind) w.comp.joined p.0 j (sym (ap (λ o. slice_get (gate_inputs o) p.0) w.at) ∙ p.1) in
       (is.rows g.0.0 w.comp w.at).known p.0 a (q.1 ∙ ap Some e)
 
   -- ---- a key's bit

@@ -4,7 +4,7 @@ use Rattle.std.specs.List.{Contains, list_any}
 use Rattle.std.specs.Ordering.{eq_by_cmp}
 use Rattle.std.specs.FinMap.{get, retain_keys}
 use Rattle.std.specs.FinSet.{contains, from_list}
-use Rattle.eco_net.specs.Netlist.{Name, name_cmp, Netlist, Component, Gate, Computes, role_of, IsNet, IsWhole}
+use Rattle.eco_net.specs.Netlist.{Name, name_cmp, Netlist, Component, Gate, GateOutput, role_of, IsNet, IsWellFormed}
 use Rattle.eco_net.specs.Drivers.{driven_at, Computed}
 use Rattle.eco_net.specs.Walks.{IsLoopFree}
 
@@ -34,7 +34,7 @@ pub record IsSpare (x : Component) : Type 0 where
   pub inputs : List Name
   pub outputs : List (Name × List Bool)
   pub gate : x.kind ≡ Gate inputs outputs
-  pub off : (p : Name) (t : List Bool) → role_of x p ≡ Some (Computes t) → get x.joined p ≡ None
+  pub off : (p : Name) (t : List Bool) → role_of x p ≡ Some (GateOutput t) → get x.joined p ≡ None
 
 -- N is M without some components, each of which drives nothing
 pub record IsWithout (M N : Netlist) : Type 0 where
@@ -51,7 +51,7 @@ HasBlank n = Contains n 32
 -- are nets and have their values by what is no spare, the stock are gates that drive nothing, and no component's name has a
 -- blank.
 pub record IsBase (base : Base) : Type 0 where
-  pub whole : IsWhole base.full
+  pub whole : IsWellFormed base.full
   pub loop_free : IsLoopFree (bare base)
   pub low_is : IsConstant (bare base) base.low false
   pub high_is : IsConstant (bare base) base.high true

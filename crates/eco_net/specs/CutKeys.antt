@@ -6,7 +6,7 @@ use Rattle.std.specs.Cmp.Lexicographic.{slice_cmp}
 use Rattle.std.specs.FinMap.{FinMap, get, contains_key}
 use Rattle.eco_common.specs.declared.geometry.Dir.{Dir}
 use Rattle.eco_common.specs.declared.geometry.Dir.TheVariants.{Input, Output, Inout}
-use Rattle.eco_net.specs.Netlist.{Name, name_cmp, Netlist, Component, Top, Pin, TopPin, CompPin, Role, Reads, Computes, Outside, role_of}
+use Rattle.eco_net.specs.Netlist.{Name, name_cmp, Netlist, Component, Top, Pin, TopPin, CompPin, Role, GateInput, GateOutput, BoxedPin, role_of}
 use Rattle.eco_net.specs.Drivers.{IsDriver, IsFree}
 
 pub data CutKey : Type 0 where
@@ -15,11 +15,11 @@ pub data CutKey : Type 0 where
 
 -- an OUTPUT pin of a box
 abbrev pub is_source : Option Role → Bool
-is_source (Some (Outside Output)) = true
-is_source (Some (Outside Input)) = false
-is_source (Some (Outside Inout)) = false
-is_source (Some Reads) = false
-is_source (Some (Computes t)) = false
+is_source (Some (BoxedPin Output)) = true
+is_source (Some (BoxedPin Input)) = false
+is_source (Some (BoxedPin Inout)) = false
+is_source (Some GateInput) = false
+is_source (Some (GateOutput t)) = false
 is_source None = false
 
 abbrev pub is_input : Dir → Bool

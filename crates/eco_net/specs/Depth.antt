@@ -2,7 +2,7 @@
 use Rattle.std.specs.Prelude.{◌≡◌, ℕ, zero, suc, ◌<◌, Bool, List, Option, Some, ◌⊎◌}
 use Rattle.std.specs.List.{Contains}
 use Rattle.std.specs.FinMap.{get}
-use Rattle.eco_net.specs.Netlist.{Name, Netlist, Component, Gate, inputs_of}
+use Rattle.eco_net.specs.Netlist.{Name, Netlist, Component, Gate, input_nets}
 use Rattle.eco_net.specs.Drivers.{Computed}
 
 -- c is a gate
@@ -18,7 +18,7 @@ pub record Feeds (N : Netlist) (d c : Name) : Type 0 where
   pub gate : Component
   pub is : get N.comps c ≡ Some gate
   pub net : Name
-  pub reads : Contains (inputs_of gate) (Some net)
+  pub reads : Contains (input_nets gate) (Some net)
   pub table : List Bool
   pub inputs : List (Option Name)
   pub computed : Computed N net table inputs

@@ -5,22 +5,22 @@ use Rattle.std.specs.Option.{option_map}
 use Rattle.std.specs.FinMap.{get}
 use Rattle.eco_common.specs.declared.geometry.Dir.{Dir}
 use Rattle.eco_common.specs.declared.geometry.Dir.TheVariants.{Input, Output, Inout}
-use Rattle.eco_net.specs.Netlist.{Name, Netlist, Component, Top, Pin, TopPin, CompPin, Role, Reads, Computes, Outside, role_of, inputs_of}
+use Rattle.eco_net.specs.Netlist.{Name, Netlist, Component, Top, Pin, TopPin, CompPin, Role, GateInput, GateOutput, BoxedPin, role_of, input_nets}
 
 -- a gate's outputs, and OUTPUT and INOUT pins of a box
 abbrev pub is_driving : Option Role → Bool
 is_driving None = false
-is_driving (Some Reads) = false
-is_driving (Some (Computes t)) = true
-is_driving (Some (Outside Input)) = false
-is_driving (Some (Outside Output)) = true
-is_driving (Some (Outside Inout)) = true
+is_driving (Some GateInput) = false
+is_driving (Some (GateOutput t)) = true
+is_driving (Some (BoxedPin Input)) = false
+is_driving (Some (BoxedPin Output)) = true
+is_driving (Some (BoxedPin Inout)) = true
 
 -- a gate's inputs are INPUT, its outputs OUTPUT
 abbrev pub dir_of_role : Role → Dir
-dir_of_role Reads = Input
-dir_of_role (Computes t) = Output
-dir_of_role (Outside d) = d
+dir_of_role GateInput = Input
+dir_of_role (GateOutput t) = Output
+dir_of_role (BoxedPin d) = d
 
 -- INPUT and INOUT pins of the chip
 abbrev pub drives_inward : Dir → Bool
@@ -74,8 +74,8 @@ pub record Computed (N : Netlist) (n : Name) (table : List Bool) (inputs : List 
   pub gate : Component
   pub is : get N.comps comp ≡ Some gate
   pub driver : IsDriver N n (CompPin comp pin)
-  pub at : role_of gate pin ≡ Some (Computes table)
-  pub reads : inputs_of gate ≡ inputs
+  pub at : role_of gate pin ≡ Some (GateOutput table)
+  pub reads : input_nets gate ≡ inputs
 
 abbrev pub IsComputed : Netlist → Name → Type 0
 IsComputed N n = (table : List Bool) × (inputs : List (Option Name)) × Computed N n table inputs

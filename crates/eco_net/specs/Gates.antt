@@ -40,16 +40,16 @@ abbrev pub input_count : Kind → ℕ
 input_count (Gate m) = length m.inputs
 input_count (Boxed ps) = 0
 
-abbrev pub inputs_in : Option CompRow → List (Option ℕ)
-inputs_in None = []
-inputs_in (Some r) = take (input_count r.kind) r.joined
+abbrev pub gate_inputs : Option CompRow → List (Option ℕ)
+gate_inputs None = []
+gate_inputs (Some r) = take (input_count r.kind) r.joined
 
 -- the nets of a gate's inputs, in order
 abbrev pub inputs_at : Listing → ℕ → List (Option ℕ)
-inputs_at L c = inputs_in (slice_get L.comps c)
+inputs_at L c = gate_inputs (slice_get L.comps c)
 
 -- the gate that drives b reads a, and both are computed
-pub record Reads (L : Listing) (a b : ℕ) : Type 0 where
+pub record FeedsNet (L : Listing) (a b : ℕ) : Type 0 where
   pub gate : GatePin
   pub to : computed_by L b ≡ Some gate
   pub reads : Contains (inputs_at L gate.0.0) (Some a)

@@ -16,5 +16,5 @@ abbrev pub by_bytes : {Z : Type 0} → List (Vec ℕ Z × ℕ) → List (Name ×
 by_bytes es = map (λ e. (e.0.items, e.1)) es
 
 -- short names have what the one map gives them, and the others what the other does
-abbrev pub placed : List (Name × ℕ) → List (Name × ℕ) → List (Name × ℕ)
-placed shorts longs = filter (λ e. is_short e.0) shorts ++ filter (λ e. not (is_short e.0)) longs
+abbrev pub placed_names : List (Name × ℕ) → List (Name × ℕ) → List (Name × ℕ)
+placed_names shorts longs = filter (λ e. is_short e.0) shorts ++ filter (λ e. not (is_short e.0)) longs

@@ -58,7 +58,7 @@ first_each (j ∷ js) = j ∷ filter (λ k. not (same_pin j k)) (first_each js)
 
 -- Joints that a netlist can take beside these new nets: each is of another pin, its component has the pin, and its net is one
 -- of the netlist or a new one.
-pub record Takes (N : Netlist) (nets : List Name) (joints : List NewJoint) : Type 0 where
+pub record CanTake (N : Netlist) (nets : List Name) (joints : List NewJoint) : Type 0 where
   pub once : IsDistinct same_pin joints
   pub pins : (j : NewJoint) → Contains joints j → (x : Component) × (get N.comps j.comp ≡ Some x) × IsPin x j.pin
   pub nets_known : (j : NewJoint) → Contains joints j → IsNet N j.net ⊎ Contains nets j.net

@@ -10,25 +10,25 @@ use Rattle.eco_net.specs.declared.drivers.Driving.{Driving}
 use Rattle.eco_net.specs.ByNumber.{all_pins}
 use Rattle.eco_net.specs.Driving.{each_driving}
 use Rattle.eco_net.specs.Netlist.{Name, name_cmp, Kind, pins_of, HasRows}
-use Rattle.eco_net.specs.Listing.{Listing, AreApart, kind_of, pins}
+use Rattle.eco_net.specs.Listing.{Listing, AreDistinctNames, given_kind, pins}
 
 -- pins of distinct names, fewer than 2 ^ 32 of them, and tables with their rows
 pub record IsKind (k : Kind) : Type 0 where
-  pub apart : AreApart (map (λ p. p.0) (pins_of k))
+  pub apart : AreDistinctNames (map (λ p. p.0) (pins_of k))
   pub few : length (pins_of k) < 2 ^ 32
   pub rows : HasRows k
 
 -- a net or none for each pin, each of them one of n nets
 pub record IsRow (n : ℕ) (r : CompRow) : Type 0 where
-  pub kind : IsKind (kind_of r.kind)
+  pub kind : IsKind (given_kind r.kind)
   pub each_pin : length r.joined ≡ length (pins r)
   pub known : (k i : ℕ) → slice_get r.joined k ≡ Some (Some i) → i < n
 
 -- names are distinct, and each number of a net is that of one
 pub record IsListing (L : Listing) : Type 0 where
-  pub nets : AreApart (map (λ r. r.name) L.nets)
-  pub comps : AreApart (map (λ r. r.name) L.comps)
-  pub tops : AreApart (map (λ r. r.name) L.tops)
+  pub nets : AreDistinctNames (map (λ r. r.name) L.nets)
+  pub comps : AreDistinctNames (map (λ r. r.name) L.comps)
+  pub tops : AreDistinctNames (map (λ r. r.name) L.tops)
   pub rows : (c : ℕ) (r : CompRow) → slice_get L.comps c ≡ Some r → IsRow (length L.nets) r
   pub ends : (t : ℕ) (r : TopRow) → slice_get L.tops t ≡ Some r → r.net < length L.nets
   pub few_nets : length L.nets ≤ MAX_LISTED_NETS

@@ -11,16 +11,16 @@ use Rattle.eco_net.specs.declared.ids.PinRef.{PinRef}
 use Rattle.eco_net.specs.declared.ids.PinRef.TheVariants.{Top as TopNumber, Pin as PinNumber}
 use Rattle.eco_net.specs.declared.cut.CutKey.{CutKey as KeyNumber}
 use Rattle.eco_net.specs.declared.cut.CutKey.TheVariants.{Top, Boxed, Net}
-use Rattle.eco_net.specs.Netlist.{Name, Netlist, Role, Reads, Computes, Outside}
+use Rattle.eco_net.specs.Netlist.{Name, Netlist, Role, GateInput, GateOutput, BoxedPin}
 use Rattle.eco_net.specs.Drivers.{IsFree}
 use Rattle.eco_net.specs.CutKeys.{CutKey, PinKey, NetKey, KeyOf}
-use Rattle.eco_net.specs.Listing.{Listing, pin_named, net_name}
+use Rattle.eco_net.specs.Listing.{Listing, numbered_pin, net_name}
 use Rattle.eco_net.specs.ByNumber.{role_at, driver_at}
 
 -- the key of a number
 abbrev pub key_named : Listing → KeyNumber → CutKey
-key_named L (Top t) = PinKey (pin_named L (TopNumber t))
-key_named L (Boxed c k) = PinKey (pin_named L (PinNumber c k))
+key_named L (Top t) = PinKey (numbered_pin L (TopNumber t))
+key_named L (Boxed c k) = PinKey (numbered_pin L (PinNumber c k))
 key_named L (Net n) = NetKey (net_name L.nets n.0)
 
 -- the keys of the free nets among these, in their order
@@ -44,11 +44,11 @@ key_by_top (Some r) t n = key_by_dir r.dir t n
 
 abbrev pub key_by_role : Option Role → CompId → ℕ → ℕ → Option KeyNumber
 key_by_role None c k n = own_key n
-key_by_role (Some Reads) c k n = own_key n
-key_by_role (Some (Computes t)) c k n = None
-key_by_role (Some (Outside Input)) c k n = own_key n
-key_by_role (Some (Outside Output)) c k n = Some (Boxed c k)
-key_by_role (Some (Outside Inout)) c k n = own_key n
+key_by_role (Some GateInput) c k n = own_key n
+key_by_role (Some (GateOutput t)) c k n = None
+key_by_role (Some (BoxedPin Input)) c k n = own_key n
+key_by_role (Some (BoxedPin Output)) c k n = Some (Boxed c k)
+key_by_role (Some (BoxedPin Inout)) c k n = own_key n
 
 abbrev pub key_by_driver : Listing → ℕ → Option PinRef → Option KeyNumber
 key_by_driver L n None = own_key n

@@ -5,13 +5,13 @@ use Rattle.eco_net.specs.Netlist.{Netlist}
 use Rattle.eco_net.specs.Walks.{IsLoopFree, IsClosedWalk}
 use Rattle.eco_net.specs.Depth.{IsDepth}
 use Rattle.eco_net.specs.Listing.{Listing, netlist}
-use Rattle.eco_net.specs.Search.{IsOrder}
+use Rattle.eco_net.specs.Search.{IsEvaluationOrder}
 use Rattle.eco_net.specs.Levelled.{Levelled}
 
 -- levels of a loop-free netlist: its computed nets, each once and after all computed nets that its driver reads, and the
 -- greatest depth of a gate
 pub record IsLevels (L : Listing) (l : Levelled) : Type 0 where
-  pub ordered : IsOrder L l.order
+  pub ordered : IsEvaluationOrder L l.order
   pub loop_free : IsLoopFree (netlist L)
   pub depth : IsDepth (netlist L) l.depth
 

@@ -9,7 +9,7 @@ use Rattle.eco_func.specs.Tables.{TruthTable, at}
 use Rattle.eco_net.specs.declared.kind.Kind.{Kind as Given}
 use Rattle.eco_net.specs.declared.kind.Kind.TheVariants.{Gate as GivenGate, Boxed as GivenBox}
 use Rattle.eco_net.specs.declared.kind.PinUse.{PinUse}
-use Rattle.eco_net.specs.declared.kind.PinUse.TheVariants.{Reads as UseReads, Computes as UseComputes, Outside as UseOutside}
+use Rattle.eco_net.specs.declared.kind.PinUse.TheVariants.{GateInput as UseInput, GateOutput as UseOutput, BoxedPin as UseBoxed}
 use Rattle.eco_net.specs.declared.rows.NetRow.{NetRow}
 use Rattle.eco_net.specs.declared.rows.CompRow.{CompRow}
 use Rattle.eco_net.specs.declared.rows.TopRow.{TopRow}
@@ -17,7 +17,7 @@ use Rattle.eco_net.specs.declared.ids.CompId.{CompId}
 use Rattle.eco_net.specs.declared.ids.FoundComp.{FoundComp}
 use Rattle.eco_net.specs.declared.ids.PinRef.{PinRef}
 use Rattle.eco_net.specs.declared.ids.PinRef.TheVariants.{Top as TopNumber, Pin as PinNumber}
-use Rattle.eco_net.specs.Netlist.{Name, name_cmp, Kind, Gate, Boxed, Netlist, Component, Top, Pin, TopPin, CompPin, Role, Reads, Computes, Outside, pins_of, IsPin}
+use Rattle.eco_net.specs.Netlist.{Name, name_cmp, Kind, Gate, Boxed, Netlist, Component, Top, Pin, TopPin, CompPin, Role, GateInput, GateOutput, BoxedPin, pins_of, IsPin}
 
 pub record Listing : Type 0 where
   pub nets : List NetRow
@@ -31,19 +31,19 @@ pub record Listing : Type 0 where
 abbrev pub bits_of : TruthTable → List Bool
 bits_of t = map (at t) (range_with_len 0 (2 ^ t.inputs))
 
-abbrev pub kind_of : Given → Kind
-kind_of (GivenGate m) = Gate m.inputs (map (λ o. (o.pin, bits_of o.table)) m.outputs)
-kind_of (GivenBox pins) = Boxed (map (λ p. (p.name, p.dir)) pins)
+abbrev pub given_kind : Given → Kind
+given_kind (GivenGate m) = Gate m.inputs (map (λ o. (o.pin, bits_of o.table)) m.outputs)
+given_kind (GivenBox pins) = Boxed (map (λ p. (p.name, p.dir)) pins)
 
 -- what a pin is for, its table by its bits
 abbrev pub role_of_use : PinUse → Role
-role_of_use UseReads = Reads
-role_of_use (UseComputes t) = Computes (bits_of t)
-role_of_use (UseOutside d) = Outside d
+role_of_use UseInput = GateInput
+role_of_use (UseOutput t) = GateOutput (bits_of t)
+role_of_use (UseBoxed d) = BoxedPin d
 
 -- a component's pins by number
 abbrev pub pins : CompRow → List (Name × Role)
-pins r = pins_of (kind_of r.kind)
+pins r = pins_of (given_kind r.kind)
 
 -- the name of the net of a number
 abbrev pub net_name : List NetRow → ℕ → Name
@@ -54,14 +54,14 @@ abbrev pub comp_name : List CompRow → ℕ → Name
 comp_name comps c = unwrap_or (option_map (λ r. r.name) (slice_get comps c)) []
 
 -- the net of each pin that is on one
-abbrev pub joints : List NetRow → List (Name × Role) → List (Option ℕ) → List (Name × Name)
-joints nets [] js = []
-joints nets (p ∷ ps) [] = []
-joints nets (p ∷ ps) (None ∷ js) = joints nets ps js
-joints nets (p ∷ ps) (Some i ∷ js) = (p.0, net_name nets i) ∷ joints nets ps js
+abbrev pub row_joints : List NetRow → List (Name × Role) → List (Option ℕ) → List (Name × Name)
+row_joints nets [] js = []
+row_joints nets (p ∷ ps) [] = []
+row_joints nets (p ∷ ps) (None ∷ js) = row_joints nets ps js
+row_joints nets (p ∷ ps) (Some i ∷ js) = (p.0, net_name nets i) ∷ row_joints nets ps js
 
 abbrev pub component : List NetRow → CompRow → Component
-component nets r = record { kind = kind_of r.kind; place = r.place; joined = from_entries (joints nets (pins r) r.joined) }
+component nets r = record { kind = given_kind r.kind; place = r.place; joined = from_entries (row_joints nets (pins r) r.joined) }
 
 abbrev pub top : List NetRow → TopRow → Top
 top nets r = record { dir = r.dir; net = net_name nets r.net }
@@ -92,9 +92,9 @@ pin_at None k = TopPin []
 pin_at (Some r) k = CompPin r.name (unwrap_or (option_map (λ p. p.0) (slice_get (pins r) k)) [])
 
 -- the pin of a number
-abbrev pub pin_named : Listing → PinRef → Pin
-pin_named L (TopNumber t) = TopPin (unwrap_or (option_map (λ r. r.name) (slice_get L.tops t.0)) [])
-pin_named L (PinNumber c k) = pin_at (slice_get L.comps c.0) k
+abbrev pub numbered_pin : Listing → PinRef → Pin
+numbered_pin L (TopNumber t) = TopPin (unwrap_or (option_map (λ r. r.name) (slice_get L.tops t.0)) [])
+numbered_pin L (PinNumber c k) = pin_at (slice_get L.comps c.0) k
 
 -- a pin by the name of its component, or none for a top pin
 abbrev pub pin_by : Option Name → Name → Pin
@@ -112,8 +112,8 @@ IsKnownPin L (PinNumber c k) = HasPin (slice_get L.comps c.0) k
 -- ---- what a listing keeps
 
 -- no name stands at two places
-abbrev pub AreApart : List Name → Type 0
-AreApart names = (i j : ℕ) (n : Name) → slice_get names i ≡ Some n → slice_get names j ≡ Some n → i ≡ j
+abbrev pub AreDistinctNames : List Name → Type 0
+AreDistinctNames names = (i j : ℕ) (n : Name) → slice_get names i ≡ Some n → slice_get names j ≡ Some n → i ≡ j
 
 -- a box's pins have names of their own, and fewer than 2 ^ 32 numbers; those of a gate have by its type
 abbrev pub HasOwnPins : Given → Type 0
@@ -164,4 +164,4 @@ FindsPin (Some r) q o = FindsName (map (λ p. p.0) (pins r)) q o
 -- the component's pin of a name by number, or none where the component has no such pin
 abbrev pub FindsPinNamed : Listing → CompId → Name → Option ℕ → Type 0
 FindsPinNamed L c q None = (x : Component) → get (netlist L).comps (comp_name L.comps c.0) ≡ Some x → IsPin x q → ⊥
-FindsPinNamed L c q (Some k) = IsKnownPin L (PinNumber c k) × (pin_named L (PinNumber c k) ≡ CompPin (comp_name L.comps c.0) q)
+FindsPinNamed L c q (Some k) = IsKnownPin L (PinNumber c k) × (numbered_pin L (PinNumber c k) ≡ CompPin (comp_name L.comps c.0) q)

@@ -45,13 +45,13 @@ pub data Pin : Type 0 where
 
 -- what a component's pin is for: a gate's input, a gate's output by its table, or a box's pin
 pub data Role : Type 0 where
-  Reads : Role
-  Computes : (table : List Bool) → Role
-  Outside : (dir : Dir) → Role
+  GateInput : Role
+  GateOutput : (table : List Bool) → Role
+  BoxedPin : (dir : Dir) → Role
 
 abbrev pub pins_of : Kind → List (Name × Role)
-pins_of (Gate inputs outputs) = map (λ p. (p, Reads)) inputs ++ map (λ o. (o.0, Computes o.1)) outputs
-pins_of (Boxed pins) = map (λ p. (p.0, Outside p.1)) pins
+pins_of (Gate inputs outputs) = map (λ p. (p, GateInput)) inputs ++ map (λ o. (o.0, GateOutput o.1)) outputs
+pins_of (Boxed pins) = map (λ p. (p.0, BoxedPin p.1)) pins
 
 -- none where the component has no pin of this name
 abbrev pub role_of : Component → Name → Option Role
@@ -62,8 +62,8 @@ input_names (Gate inputs outputs) = inputs
 input_names (Boxed pins) = []
 
 -- the nets of a gate's inputs, in order
-abbrev pub inputs_of : Component → List (Option Name)
-inputs_of x = map (get x.joined) (input_names x.kind)
+abbrev pub input_nets : Component → List (Option Name)
+input_nets x = map (get x.joined) (input_names x.kind)
 
 abbrev pub IsNet : Netlist → Name → Type 0
 IsNet N n = (s : Option Bool) × (get N.nets n ≡ Some s)
@@ -78,7 +78,7 @@ HasRows (Boxed pins) = Unit {0}
 
 -- A component's pins have distinct names, each table has its rows, and each pin that is on a net is a pin of its component
 -- and on a net of the netlist.
-pub record IsWhole (N : Netlist) : Type 0 where
+pub record IsWellFormed (N : Netlist) : Type 0 where
   pub names : (c : Name) (x : Component) → get N.comps c ≡ Some x → IsDistinct (eq_by_cmp name_cmp) (map (λ e. e.0) (pins_of x.kind))
   pub rows : (c : Name) (x : Component) → get N.comps c ≡ Some x → HasRows x.kind
   pub pins : (c : Name) (x : Component) (p n : Name) → get N.comps c ≡ Some x → get x.joined p ≡ Some n → IsPin x p × IsNet N n

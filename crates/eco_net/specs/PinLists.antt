@@ -17,13 +17,13 @@ put P n p = record {
   pins = slice_set P.pins (slice_index P.ends n) p;
 }
 
-abbrev pub put_on : Places → Option ℕ → PinRef → Places
-put_on P None p = P
-put_on P (Some n) p = put P n p
+abbrev pub put_if_on : Places → Option ℕ → PinRef → Places
+put_if_on P None p = P
+put_if_on P (Some n) p = put P n p
 
 -- with each of these pins that is on a net at the next place of its net
 abbrev pub put_all : Listing → Places → List PinRef → Places
-put_all L P ps = fold (λ P p. put_on P (net_at L p) p) P ps
+put_all L P ps = fold (λ P p. put_if_on P (net_at L p) p) P ps
 
 -- for each count the sum of those before it
 abbrev pub sums : List ℕ → List ℕ

@@ -5,7 +5,7 @@ use Rattle.std.specs.Ordering.{on, nat_cmp}
 use Rattle.std.specs.Cmp.Lexicographic.{slice_cmp}
 use Rattle.eco_net.specs.declared.ids.PinRef.{PinRef}
 use Rattle.eco_net.specs.declared.ids.PinRef.TheVariants.{Top, Pin}
-use Rattle.eco_net.specs.Netlist.{Role, Reads, Computes, Outside}
+use Rattle.eco_net.specs.Netlist.{Role, GateInput, GateOutput, BoxedPin}
 use Rattle.eco_net.specs.Listing.{Listing}
 use Rattle.eco_net.specs.ByNumber.{role_at}
 
@@ -20,9 +20,9 @@ pin_order = on pin_number (slice_cmp nat_cmp)
 -- a gate's output is of the third kind
 abbrev pub kind_number : Option Role → ℕ
 kind_number None = 1
-kind_number (Some Reads) = 1
-kind_number (Some (Computes t)) = 2
-kind_number (Some (Outside d)) = 1
+kind_number (Some GateInput) = 1
+kind_number (Some (GateOutput t)) = 2
+kind_number (Some (BoxedPin d)) = 1
 
 abbrev pub observed_number : Listing → PinRef → List ℕ
 observed_number L (Top t) = 0 ∷ t.0 ∷ []

@@ -6,19 +6,19 @@ use Rattle.std.specs.List.Sorted.{IsStrictlySortedBy}
 use Rattle.eco_net.specs.declared.ids.PinRef.{PinRef}
 use Rattle.eco_net.specs.Netlist.{Name, Pin}
 use Rattle.eco_net.specs.Drivers.{IsDriver}
-use Rattle.eco_net.specs.Listing.{Listing, netlist, pin_named, IsKnownPin}
+use Rattle.eco_net.specs.Listing.{Listing, netlist, numbered_pin, IsKnownPin}
 
 -- the one driving pin of a net, or none where it has none or several
 abbrev pub DriverIs : Listing → Name → Option PinRef → Type 0
 DriverIs L n None = (q : Pin) → IsDriver (netlist L) n q → ⊥
-DriverIs L n (Some p) = IsKnownPin L p × IsDriver (netlist L) n (pin_named L p)
+DriverIs L n (Some p) = IsKnownPin L p × IsDriver (netlist L) n (numbered_pin L p)
 
-abbrev pub AreKnown : Listing → List PinRef → Type 0
-AreKnown L ps = (p : PinRef) → Contains ps p → IsKnownPin L p
+abbrev pub AreKnownPins : Listing → List PinRef → Type 0
+AreKnownPins L ps = (p : PinRef) → Contains ps p → IsKnownPin L p
 
 -- the pins with a property, each once and in this order
 pub record ArePins (L : Listing) (order : PinRef → PinRef → Ordering) (P : Pin → Type 0) (ps : List PinRef) : Type 0 where
   pub sorted : IsStrictlySortedBy order ps
   pub known : (p : PinRef) → Contains ps p → IsKnownPin L p
-  pub each : (p : PinRef) → Contains ps p → P (pin_named L p)
-  pub all : (p : PinRef) → IsKnownPin L p → P (pin_named L p) → Contains ps p
+  pub each : (p : PinRef) → Contains ps p → P (numbered_pin L p)
+  pub all : (p : PinRef) → IsKnownPin L p → P (numbered_pin L p) → Contains ps p

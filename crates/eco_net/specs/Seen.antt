@@ -9,7 +9,7 @@ use Rattle.eco_net.specs.declared.ids.PinRef.{PinRef}
 use Rattle.eco_net.specs.declared.ids.PinRef.TheVariants.{Top, Pin}
 use Rattle.eco_net.specs.declared.observables.Seen.{Seen}
 use Rattle.eco_net.specs.declared.observables.Seen.TheVariants.{AtChip, AtBox, AtGate}
-use Rattle.eco_net.specs.Netlist.{Role, Reads, Computes, Outside}
+use Rattle.eco_net.specs.Netlist.{Role, GateInput, GateOutput, BoxedPin}
 use Rattle.eco_net.specs.Listing.{Listing}
 use Rattle.eco_net.specs.ByNumber.{joint_at, role_at, tops_to, comp_pins}
 use Rattle.eco_net.specs.KeysOf.{key_at}
@@ -30,11 +30,11 @@ seen_free L (Some n) = option_map (λ key. AtGate) (key_at L n)
 
 abbrev pub seen_role : Listing → Option Role → Option ℕ → Option Seen
 seen_role L None j = None
-seen_role L (Some Reads) j = None
-seen_role L (Some (Computes t)) j = seen_free L j
-seen_role L (Some (Outside Input)) j = Some AtBox
-seen_role L (Some (Outside Output)) j = None
-seen_role L (Some (Outside Inout)) j = Some AtBox
+seen_role L (Some GateInput) j = None
+seen_role L (Some (GateOutput t)) j = seen_free L j
+seen_role L (Some (BoxedPin Input)) j = Some AtBox
+seen_role L (Some (BoxedPin Output)) j = None
+seen_role L (Some (BoxedPin Inout)) j = Some AtBox
 
 abbrev pub seen_at : Listing → PinRef → Option Seen
 seen_at L (Top t) = seen_top (slice_get L.tops t.0)

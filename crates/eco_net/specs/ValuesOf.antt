@@ -4,7 +4,7 @@ use Rattle.std.specs.List.{filter_map, range_with_len, zip}
 use Rattle.std.specs.FinMap.{from_entries}
 use Rattle.eco_net.specs.declared.rows.NetRow.{NetRow}
 use Rattle.eco_net.specs.declared.cut.CutKey.{CutKey as KeyNumber}
-use Rattle.eco_net.specs.Netlist.{Role, Reads as Read, Computes, Outside}
+use Rattle.eco_net.specs.Netlist.{Role, GateInput as Read, GateOutput, BoxedPin}
 use Rattle.eco_net.specs.CutKeys.{CutBits}
 use Rattle.eco_net.specs.Valuation.{Valuation, table_value}
 use Rattle.eco_net.specs.Listing.{Listing, net_names}
@@ -48,8 +48,8 @@ bit_of vs (Some n) = slice_index_or vs n false
 abbrev pub by_role : Option Role → List Bool → Bool
 by_role None bits = false
 by_role (Some Read) bits = false
-by_role (Some (Computes t)) bits = table_value t bits
-by_role (Some (Outside d)) bits = false
+by_role (Some (GateOutput t)) bits = table_value t bits
+by_role (Some (BoxedPin d)) bits = false
 
 -- what a gate's output computes from these values
 abbrev pub computes : Listing → List Bool → GatePin → Bool

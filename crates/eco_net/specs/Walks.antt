@@ -15,13 +15,13 @@ pub record ReadsNet (N : Netlist) (a b : Name) : Type 0 where
   pub reads : Contains inputs (Some a)
 
 -- a walk of k steps, each net read by the driver of the next
-abbrev pub Walk : Netlist → Name → Name → ℕ → Type 0
-Walk N a b zero = a ≡ b
-Walk N a b (suc k) = (c : Name) × Walk N a c k × ReadsNet N c b
+abbrev pub NetWalk : Netlist → Name → Name → ℕ → Type 0
+NetWalk N a b zero = a ≡ b
+NetWalk N a b (suc k) = (c : Name) × NetWalk N a c k × ReadsNet N c b
 
 -- no closed walk of computed nets
 abbrev pub IsLoopFree : Netlist → Type 0
-IsLoopFree N = (a : Name) (k : ℕ) → Walk N a a (suc k) → ⊥
+IsLoopFree N = (a : Name) (k : ℕ) → NetWalk N a a (suc k) → ⊥
 
 -- from a through these nets to b, each read by the driver of the next
 abbrev pub Onward : Netlist → Name → List Name → Name → Type 0

@@ -66,10 +66,10 @@ impl Netlist {
             },
             Some(PinRef::Pin(comp, pin)) => {
                 match self.listed.comp(comp.0).kind.pin_use(pin as usize) {
-                    PinUse::Computes(_) => None,
-                    PinUse::Outside(Dir::Output) => Some(CutKey::Boxed(comp, pin)),
-                    PinUse::Outside(_) => Some(own),
-                    PinUse::Reads => Some(own),
+                    PinUse::GateOutput(_) => None,
+                    PinUse::BoxedPin(Dir::Output) => Some(CutKey::Boxed(comp, pin)),
+                    PinUse::BoxedPin(_) => Some(own),
+                    PinUse::GateInput => Some(own),
                 }
             }
         }

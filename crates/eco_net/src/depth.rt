@@ -5,7 +5,7 @@ ghost use Rattle.std.specs.Option.{IfSome};
 ghost use Rattle.eco_net.specs.Listing.{Listing, netlist};
 ghost use Rattle.eco_net.specs.Gates.{inputs_at};
 ghost use Rattle.eco_net.specs.Depth.{IsDepth};
-ghost use Rattle.eco_net.specs.Search.{IsOrder};
+ghost use Rattle.eco_net.specs.Search.{IsEvaluationOrder};
 ghost use Rattle.eco_net.specs.DepthsOf.{depth_at, gate_depth, AreDepths};
 
 use crate::kind::Kind;
@@ -42,7 +42,7 @@ impl Netlist {
 
     /// The depth of each computed net, which is that of its gate, and 0 at other nets.
     fn net_depths(&self, alloc: Global, order: &[u32]) -> Result<Vec<u32>, Memory>
-        requires { IsOrder self.now order.now }
+        requires { IsEvaluationOrder self.now order.now }
         ensures { IfOk result (λ ds. AreDepths self.now ds.items) }
     {
         let mut depths = vec![in alloc; 0; self.listed.net_count() as usize]?;
@@ -71,7 +71,7 @@ impl Netlist {
 
     /// The greatest depth of a gate, by an order of the computed nets.
     pub(crate) fn depth(&self, alloc: Global, order: &[u32]) -> Result<u32, Memory>
-        requires { IsOrder self.now order.now }
+        requires { IsEvaluationOrder self.now order.now }
         ensures { IfOk result (λ d. IsDepth (netlist self.now) d) }
     {
         let depths = self.net_depths(alloc, order)?;

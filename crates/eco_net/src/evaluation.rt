@@ -73,8 +73,8 @@ impl Netlist {
             bits[input] = read(values, row.joined.get(input));
         }
         match row.kind.pin_use(pin as usize) {
-            PinUse::Computes(table) => table.look(&bits[..inputs]),
-            PinUse::Reads | PinUse::Outside(_) => false,
+            PinUse::GateOutput(table) => table.look(&bits[..inputs]),
+            PinUse::GateInput | PinUse::BoxedPin(_) => false,
         }
     }
 

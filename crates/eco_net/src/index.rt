@@ -21,13 +21,13 @@ impl Model for NameIndex {
     ghost use Rattle.std.specs.FinMap as map;
     ghost use Rattle.std.specs.Coded.{coded_ℕ, coded_list};
     ghost use Rattle.eco_net.specs.Netlist.{name_cmp};
-    ghost use Rattle.eco_net.specs.Index.{by_bytes, placed};
+    ghost use Rattle.eco_net.specs.Index.{by_bytes, placed_names};
 
     ghost Value = { map.FinMap name_cmp ℕ };
 
     ghost coded = { map.code (coded_list coded_ℕ) coded_ℕ };
 
-    ghost view = { λ s. map.from_entries (placed s.shorts.entries (by_bytes s.longs.entries)) };
+    ghost view = { λ s. map.from_entries (placed_names s.shorts.entries (by_bytes s.longs.entries)) };
 }
 
 /// Each name in place, if it is short.

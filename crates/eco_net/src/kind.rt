@@ -66,11 +66,11 @@ impl BoxPins {
 #[derive(Clone, Copy, Debug, Drop, PartialEq, Eq)]
 pub enum PinUse {
     /// An input of a gate.
-    Reads,
+    GateInput,
     /// An output of a gate, by its table.
-    Computes(Table),
+    GateOutput(Table),
     /// A pin of a box, by its direction.
-    Outside(Dir),
+    BoxedPin(Dir),
 }
 
 /// What a component is. The pins of a gate are its inputs, then its outputs; those of a box are its list. Supply pins
@@ -83,13 +83,13 @@ pub enum Kind {
 
 impl Kind {
     ghost use Rattle.eco_net.specs.Netlist.{pins_of};
-    ghost use Rattle.eco_net.specs.Listing.{kind_of, HasOwnPins, role_of_use};
+    ghost use Rattle.eco_net.specs.Listing.{given_kind, HasOwnPins, role_of_use};
     ghost use Rattle.eco_net.specs.Kept.{IsKind};
 
     /// How many pins it has.
     pub(crate) fn pin_count(&self) -> usize
-        ensures count { result ≡ length (pins_of (kind_of self.now)) }
-        ensures is_kind { HasOwnPins self.now → IsKind (kind_of self.now) }
+        ensures count { result ≡ length (pins_of (given_kind self.now)) }
+        ensures is_kind { HasOwnPins self.now → IsKind (given_kind self.now) }
     {
         match self {
             Kind::Gate(master) => master.inputs().len() + master.outputs().len(),
@@ -109,26 +109,26 @@ impl Kind {
 
     /// What a pin of it is for.
     pub(crate) fn pin_use(&self, pin: usize) -> PinUse
-        requires { pin < length (pins_of (kind_of self.now)) }
-        ensures { option_map (λ p. p.1) (slice_get (pins_of (kind_of self.now)) pin) ≡ Some (role_of_use result) }
+        requires { pin < length (pins_of (given_kind self.now)) }
+        ensures { option_map (λ p. p.1) (slice_get (pins_of (given_kind self.now)) pin) ≡ Some (role_of_use result) }
     {
         match self {
             Kind::Gate(master) => {
                 let inputs = master.inputs().len();
                 if pin < inputs {
-                    PinUse::Reads
+                    PinUse::GateInput
                 } else {
-                    PinUse::Computes(master.outputs()[pin - inputs].table)
+                    PinUse::GateOutput(master.outputs()[pin - inputs].table)
                 }
             }
-            Kind::Boxed(pins) => PinUse::Outside(pins.as_slice()[pin].dir),
+            Kind::Boxed(pins) => PinUse::BoxedPin(pins.as_slice()[pin].dir),
         }
     }
 
     /// The name of a pin of it.
     pub(crate) fn pin_name(&self, pin: usize) -> &[u8]
-        requires { pin < length (pins_of (kind_of self.now)) }
-        ensures { option_map (λ p. p.0) (slice_get (pins_of (kind_of self.now)) pin) ≡ Some result.now }
+        requires { pin < length (pins_of (given_kind self.now)) }
+        ensures { option_map (λ p. p.0) (slice_get (pins_of (given_kind self.now)) pin) ≡ Some result.now }
     {
         match self {
             Kind::Gate(master) => {
@@ -147,11 +147,11 @@ impl Kind {
 impl Kind {
     ghost use Rattle.std.specs.Prelude.{map};
     ghost use Rattle.eco_net.specs.Netlist.{pins_of};
-    ghost use Rattle.eco_net.specs.Listing.{kind_of};
+    ghost use Rattle.eco_net.specs.Listing.{given_kind};
 
     /// Whether it has a pin of this name.
     pub fn has_pin(&self, name: &[u8]) -> bool
-        ensures { result ≡ list_any (λ p. bytes_eq p name.now) (map (λ p. p.0) (pins_of (kind_of self.now))) }
+        ensures { result ≡ list_any (λ p. bytes_eq p name.now) (map (λ p. p.0) (pins_of (given_kind self.now))) }
     {
         match self {
             Kind::Gate(master) => gate_has(master, name),
@@ -163,12 +163,12 @@ impl Kind {
 impl Kind {
     ghost use Rattle.std.specs.Prelude.{map, ◌^◌};
     ghost use Rattle.eco_net.specs.Netlist.{pins_of};
-    ghost use Rattle.eco_net.specs.Listing.{kind_of, FindsName};
+    ghost use Rattle.eco_net.specs.Listing.{given_kind, FindsName};
 
     /// The number of the pin of a name. How many pins there are is at hand.
     pub(crate) fn find_among(&self, pins: u32, name: &[u8]) -> Option<u32>
-        requires { pins ≡ length (pins_of (kind_of self.now)) }
-        ensures { FindsName (map (λ p. p.0) (pins_of (kind_of self.now))) name.now result }
+        requires { pins ≡ length (pins_of (given_kind self.now)) }
+        ensures { FindsName (map (λ p. p.0) (pins_of (given_kind self.now))) name.now result }
     {
         for pin in 0..pins {
             if self.pin_name(pin as usize) == name {
@@ -180,8 +180,8 @@ impl Kind {
 
     /// The number of the pin of a name.
     pub(crate) fn find_pin(&self, name: &[u8]) -> Option<u32>
-        requires { length (pins_of (kind_of self.now)) < 2 ^ 32 }
-        ensures { FindsName (map (λ p. p.0) (pins_of (kind_of self.now))) name.now result }
+        requires { length (pins_of (given_kind self.now)) < 2 ^ 32 }
+        ensures { FindsName (map (λ p. p.0) (pins_of (given_kind self.now))) name.now result }
     {
         self.find_among(self.pin_count() as u32, name)
     }
@@ -222,9 +222,9 @@ impl PinUse {
         ensures { result ≡ is_driving (Some (role_of_use self)) }
     {
         match self {
-            PinUse::Reads => false,
-            PinUse::Computes(_) => true,
-            PinUse::Outside(dir) => dir != Dir::Input,
+            PinUse::GateInput => false,
+            PinUse::GateOutput(_) => true,
+            PinUse::BoxedPin(dir) => dir != Dir::Input,
         }
     }
 
@@ -233,9 +233,9 @@ impl PinUse {
         ensures { result ≡ dir_of_role (role_of_use self) }
     {
         match self {
-            PinUse::Reads => Dir::Input,
-            PinUse::Computes(_) => Dir::Output,
-            PinUse::Outside(dir) => dir,
+            PinUse::GateInput => Dir::Input,
+            PinUse::GateOutput(_) => Dir::Output,
+            PinUse::BoxedPin(dir) => dir,
         }
     }
 }

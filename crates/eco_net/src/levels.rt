@@ -102,7 +102,7 @@ impl Netlist {
     ghost use Rattle.std.specs.List.{All};
     ghost use Rattle.eco_net.specs.Walks.{IsLoopFree};
     ghost use Rattle.eco_net.specs.Listing.{Listing, netlist, net_name};
-    ghost use Rattle.eco_net.specs.Search.{IsOrder};
+    ghost use Rattle.eco_net.specs.Search.{IsEvaluationOrder};
     ghost use Rattle.eco_net.specs.LevelsOf.{LoopIs, IsLevels};
 
     /// Levels, or a loop exactly where a closed walk of computed nets exists.

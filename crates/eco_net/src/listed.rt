@@ -7,7 +7,7 @@ ghost use Rattle.std.specs.FinSet.{contains};
 ghost use Rattle.eco_net.specs.declared.ids.PinRef.{PinRef};
 ghost use Rattle.eco_net.specs.ByNumber.{role_at};
 ghost use Rattle.eco_net.specs.Drivers.{net_of, dir_of_role};
-ghost use Rattle.eco_net.specs.Listing.{netlist, comp_names, net_name, pin_named, IsFound, IsKnownPin, FindsPin, FindsPinNamed};
+ghost use Rattle.eco_net.specs.Listing.{netlist, comp_names, net_name, numbered_pin, IsFound, IsKnownPin, FindsPin, FindsPinNamed};
 ghost use Rattle.eco_net.specs.Pins.{DriverIs};
 
 use crate::drivers::noted_of;
@@ -34,7 +34,7 @@ impl NetlistMaker {
         &self.comp(comp.0).kind
     }
 
-    /// Where a component is placed, in database units.
+    /// Where a component is placed.
     pub fn place_of(&self, comp: CompId) -> Option<Point>
         requires { comp.0 < length self.now.comps }
         ensures { option_map (λ r. r.place) (slice_get self.now.comps comp.0) ≡ Some result }
@@ -102,7 +102,7 @@ impl NetlistMaker {
     /// The net that a pin was put on.
     pub fn net_of(&self, pin: PinRef) -> Option<NetId>
         requires { IsKnownPin self.now pin }
-        ensures named { option_map (λ n. net_name self.now.nets n.0) result ≡ net_of (netlist self.now) (pin_named self.now pin) }
+        ensures named { option_map (λ n. net_name self.now.nets n.0) result ≡ net_of (netlist self.now) (numbered_pin self.now pin) }
         ensures known { IfSome result (λ n. n.0 < length self.now.nets) }
     {
         self.facts();

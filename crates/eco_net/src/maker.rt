@@ -37,7 +37,7 @@ impl Model for NetlistMaker {
 impl NetlistMaker {
     ghost use Rattle.std.specs.Prelude.{◌≡◌, ◌<◌, [], ◌∷◌, ◌++◌, None, false, length, replicate, IsOk, IfOk, OnOk, OnErr};
     ghost use Rattle.std.specs.FinMap.{get};
-    ghost use Rattle.eco_net.specs.Listing.{Listing, netlist, kind_of, HasOwnPins, IsKnownPin, net_name, pin_named, with_joint, without_joint, with_tie};
+    ghost use Rattle.eco_net.specs.Listing.{Listing, netlist, given_kind, HasOwnPins, IsKnownPin, net_name, numbered_pin, with_joint, without_joint, with_tie};
     ghost use Rattle.eco_net.specs.Changes.{empty_netlist, with_net, with_comp, with_top, with_tie_net, with_reserved, with_pin_on, with_pin_off};
     ghost use Rattle.eco_net.specs.Netlist.{pins_of};
     ghost use Rattle.eco_net.specs.declared.ids.PinRef.{PinRef};
@@ -100,7 +100,7 @@ impl NetlistMaker {
         Ok(NetId(number))
     }
 
-    /// Adds a component of a new name, with its pins unconnected. Its point is in database units.
+    /// Adds a component of a new name, with its pins unconnected.
     pub fn add_comp(
         &mut self,
         alloc: Global,
@@ -112,8 +112,8 @@ impl NetlistMaker {
         requires own_pins { HasOwnPins kind }
         requires few { length self.old.comps < MAX_LISTED_COMPS }
         ensures number { IfOk result (λ c. c.0 ≡ length self.old.comps) }
-        ensures ok { OnOk result (self.new ≡ record self.old { comps = self.old.comps ++ record { name = name.now; kind = kind; place = place; joined = replicate (length (pins_of (kind_of kind))) None } ∷ [] }) }
-        ensures named { OnOk result (netlist self.new ≡ with_comp (netlist self.old) name.now (kind_of kind) place) }
+        ensures ok { OnOk result (self.new ≡ record self.old { comps = self.old.comps ++ record { name = name.now; kind = kind; place = place; joined = replicate (length (pins_of (given_kind kind))) None } ∷ [] }) }
+        ensures named { OnOk result (netlist self.new ≡ with_comp (netlist self.old) name.now (given_kind kind) place) }
         ensures err { OnErr result (self.new ≡ self.old) }
     {
         let number = self.comps.len() as u32;
@@ -162,7 +162,7 @@ impl NetlistMaker {
         requires known_net { net.0 < length self.old.nets }
         ensures always { IsOk result }
         ensures ok { OnOk result (self.new ≡ record self.old { comps = with_joint self.old.comps comp.0 pin net.0 }) }
-        ensures named { OnOk result (netlist self.new ≡ with_pin_on (netlist self.old) (pin_named self.old (PinRef.Pin comp pin)) (net_name self.old.nets net.0)) }
+        ensures named { OnOk result (netlist self.new ≡ with_pin_on (netlist self.old) (numbered_pin self.old (PinRef.Pin comp pin)) (net_name self.old.nets net.0)) }
         ensures err { OnErr result (self.new ≡ self.old) }
     {
         let row = &mut self.comps[comp.0 as usize];
@@ -174,7 +174,7 @@ impl NetlistMaker {
     pub fn part(&mut self, comp: CompId, pin: u32)
         requires { IsKnownPin self.old (PinRef.Pin comp pin) }
         ensures rows { self.new ≡ record self.old { comps = without_joint self.old.comps comp.0 pin } }
-        ensures named { netlist self.new ≡ with_pin_off (netlist self.old) (pin_named self.old (PinRef.Pin comp pin)) }
+        ensures named { netlist self.new ≡ with_pin_off (netlist self.old) (numbered_pin self.old (PinRef.Pin comp pin)) }
     {
         let row = &mut self.comps[comp.0 as usize];
         row.joined.take_off(pin as usize);

@@ -4,7 +4,7 @@ ghost use Rattle.std.specs.Prelude.{◌≡◌, ◌<◌, ◌++◌, length, IfOk, 
 ghost use Rattle.std.specs.List.{filter};
 ghost use Rattle.eco_net.specs.ByNumber.{is_net, is_on, drives, tops_to, pins_to, comp_pins, pin_count, pins_on};
 ghost use Rattle.eco_net.specs.Listing.{IsKnownPin};
-ghost use Rattle.eco_net.specs.Pins.{AreKnown};
+ghost use Rattle.eco_net.specs.Pins.{AreKnownPins};
 
 use crate::ids::{CompId, PinRef, TopId};
 use crate::maker::NetlistMaker;
@@ -89,7 +89,7 @@ fn driving_among(
     listed: &NetlistMaker,
     pins: &[PinRef],
 ) -> Result<Vec<PinRef>, Memory>
-    requires { AreKnown listed.now pins.now }
+    requires { AreKnownPins listed.now pins.now }
     ensures { IfOk result (λ found. found.items ≡ filter (drives listed.now) pins.now) }
 {
     let mut found = Vec::new(alloc);

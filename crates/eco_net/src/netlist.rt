@@ -36,12 +36,12 @@ impl Model for Netlist {
 impl NetlistMaker {
     ghost use Rattle.std.specs.Prelude.{◌≡◌, IfOk};
     ghost use Rattle.eco_net.specs.Listing.{netlist};
-    ghost use Rattle.eco_net.specs.Netlist.{IsWhole};
+    ghost use Rattle.eco_net.specs.Netlist.{IsWellFormed};
 
     /// The netlist that was listed.
     pub fn finish(self, alloc: Global) -> Result<Netlist, Memory>
         ensures listed { IfOk result (λ n. n ≡ self) }
-        ensures whole { IfOk result (λ n. IsWhole (netlist n)) }
+        ensures whole { IfOk result (λ n. IsWellFormed (netlist n)) }
     {
         self.facts();
         let driving = noted_of(alloc, &self)?;
@@ -59,8 +59,8 @@ impl Netlist {
     ghost use Rattle.std.specs.FinSet.{contains};
     ghost use Rattle.eco_net.specs.declared.ids.PinRef.{PinRef};
     ghost use Rattle.eco_net.specs.Drivers.{net_of, dir_of_role};
-    ghost use Rattle.eco_net.specs.Netlist.{IsWhole};
-    ghost use Rattle.eco_net.specs.Listing.{Listing, netlist, net_names, comp_names, net_name, pin_named, pin_by, IsKnownPin, FindsPin, FindsPinNamed};
+    ghost use Rattle.eco_net.specs.Netlist.{IsWellFormed};
+    ghost use Rattle.eco_net.specs.Listing.{Listing, netlist, net_names, comp_names, net_name, numbered_pin, pin_by, IsKnownPin, FindsPin, FindsPinNamed};
     ghost use Rattle.eco_net.specs.ByNumber.{role_at};
     ghost use Rattle.eco_net.specs.Kept.{IsListing};
     ghost use Rattle.eco_net.specs.Pins.{DriverIs};
@@ -70,7 +70,7 @@ impl Netlist {
     /// it runs.
     pub fn facts(&self)
         ensures listing { IsListing self.now }
-        ensures whole { IsWhole (netlist self.now) }
+        ensures whole { IsWellFormed (netlist self.now) }
     {
         self.listed.facts()
     }
@@ -81,7 +81,7 @@ impl Netlist {
         ensures comps { result.comps ≡ length self.now.comps }
         ensures tops { result.tops ≡ length self.now.tops }
         ensures listing { IsListing self.now }
-        ensures whole { IsWhole (netlist self.now) }
+        ensures whole { IsWellFormed (netlist self.now) }
     {
         self.listed.counts()
     }
@@ -138,7 +138,7 @@ impl Netlist {
         &self.listed.comp(comp.0).kind
     }
 
-    /// Where a component is placed, in database units.
+    /// Where a component is placed.
     pub fn place_of(&self, comp: CompId) -> Option<Point>
         requires { comp.0 < length self.now.comps }
         ensures { option_map (λ r. r.place) (slice_get self.now.comps comp.0) ≡ Some result }
@@ -190,7 +190,7 @@ impl Netlist {
     /// The name of a pin.
     pub fn pin_name(&self, pin: PinRef) -> PinName<'_>
         requires { IsKnownPin self.now pin }
-        ensures { pin_named self.now pin ≡ pin_by (option_map (λ c. c.now) result.comp) result.pin.now }
+        ensures { numbered_pin self.now pin ≡ pin_by (option_map (λ c. c.now) result.comp) result.pin.now }
     {
         match pin {
             PinRef::Top(top) => PinName {
@@ -210,7 +210,7 @@ impl Netlist {
     /// The net that a pin is on.
     pub fn net_of(&self, pin: PinRef) -> Option<NetId>
         requires { IsKnownPin self.now pin }
-        ensures named { option_map (λ n. net_name self.now.nets n.0) result ≡ net_of (netlist self.now) (pin_named self.now pin) }
+        ensures named { option_map (λ n. net_name self.now.nets n.0) result ≡ net_of (netlist self.now) (numbered_pin self.now pin) }
         ensures known { IfSome result (λ n. n.0 < length self.now.nets) }
     {
         match self.listed.net_of_pin(pin) {

@@ -55,10 +55,10 @@ impl Netlist {
             PinRef::Pin(comp, pin) => {
                 let row = self.listed.comp(comp.0);
                 match row.kind.pin_use(pin as usize) {
-                    PinUse::Reads => None,
-                    PinUse::Computes(_) => self.seen_free(row.joined.get(pin as usize)),
-                    PinUse::Outside(Dir::Output) => None,
-                    PinUse::Outside(_) => Some(Seen::AtBox),
+                    PinUse::GateInput => None,
+                    PinUse::GateOutput(_) => self.seen_free(row.joined.get(pin as usize)),
+                    PinUse::BoxedPin(Dir::Output) => None,
+                    PinUse::BoxedPin(_) => Some(Seen::AtBox),
                 }
             }
         }

@@ -6,7 +6,7 @@ ghost use Rattle.std.specs.List.{AllZip};
 ghost use Rattle.std.specs.Option.{option_map};
 ghost use Rattle.std.specs.FinSet.{contains};
 ghost use Rattle.eco_net.specs.Listing.{Listing, netlist, net_names, comp_names, FindsComp, IsKnownPin};
-ghost use Rattle.eco_net.specs.Netlist.{IsWhole};
+ghost use Rattle.eco_net.specs.Netlist.{IsWellFormed};
 ghost use Rattle.eco_net.specs.Kept.{IsListing, IsRow};
 ghost use Rattle.eco_net.specs.JoinedPins.{joined_pins, unconnected_pins};
 ghost use Rattle.eco_net.specs.ByNumber.{net_at, drives, end_of, joint_at, found_of};
@@ -22,7 +22,7 @@ impl NetlistMaker {
     /// runs.
     pub fn facts(&self)
         ensures listing { IsListing self.now }
-        ensures whole { IsWhole (netlist self.now) }
+        ensures whole { IsWellFormed (netlist self.now) }
     {
         self.net_count();
     }
@@ -33,7 +33,7 @@ impl NetlistMaker {
         ensures comps { result.comps ≡ length self.now.comps }
         ensures tops { result.tops ≡ length self.now.tops }
         ensures listing { IsListing self.now }
-        ensures whole { IsWhole (netlist self.now) }
+        ensures whole { IsWellFormed (netlist self.now) }
     {
         Counts {
             nets: self.net_count(),

@@ -1,7 +1,7 @@
 //! Taking components out of a netlist that is being listed.
 
 ghost use Rattle.std.specs.Prelude.{◌≡◌, ◌<◌, ◌^◌, [], ◌∷◌, ◌++◌, length, map, IfOk, OnOk, if◌then◌else◌};
-ghost use Rattle.eco_net.specs.Listing.{Listing, AreApart, netlist};
+ghost use Rattle.eco_net.specs.Listing.{Listing, AreDistinctNames, netlist};
 ghost use Rattle.eco_net.specs.Kept.{IsIndexOf};
 ghost use Rattle.eco_net.specs.Removal.{unmarked_rows, marked_names, without_comps};
 
@@ -35,7 +35,7 @@ fn unmarked(alloc: Global, comps: Vec<CompRow>, marks: &[bool]) -> Result<Vec<Co
 /// The place of each component by its name.
 fn index_of(alloc: Global, comps: &[CompRow]) -> Result<NameIndex, Memory>
     requires few { length comps.now < 2 ^ 32 }
-    requires apart { AreApart (map (λ r. r.name) comps.now) }
+    requires apart { AreDistinctNames (map (λ r. r.name) comps.now) }
     ensures { IfOk result (λ index. IsIndexOf (map (λ r. r.name) comps.now) index) }
 {
     let mut index = NameIndex::with_capacity(alloc, comps.len())?;

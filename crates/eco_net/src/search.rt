@@ -3,12 +3,12 @@
 
 ghost use Rattle.std.specs.Prelude.{◌≡◌, ◌<◌, ◌++◌, ℕ, List, [], ◌∷◌, Some, None, length, sum_by, slice_get, slice_set, replicate, drop, reverse, MatchOption, IfOk, OnOk, IfErr};
 ghost use Rattle.eco_net.specs.Listing.{Listing};
-ghost use Rattle.eco_net.specs.Gates.{Reads, computed_by};
+ghost use Rattle.eco_net.specs.Gates.{FeedsNet, computed_by};
 ghost use Rattle.eco_net.specs.Among.{Has};
 ghost use Rattle.eco_net.specs.declared.search.Mark.{Mark};
 ghost use Rattle.eco_net.specs.declared.search.Stop.{Stop};
 ghost use Rattle.eco_net.specs.declared.search.Mark.TheVariants.{Unseen, Open, Done};
-ghost use Rattle.eco_net.specs.Search.{IsMark, IsSearch, IsOrder, IsComputedNet, Stays, StopIs, IsRing, EndsWith, weight};
+ghost use Rattle.eco_net.specs.Search.{IsMark, IsSearch, IsEvaluationOrder, IsComputedNet, Stays, StopIs, IsRing, EndsWith, weight};
 
 use crate::netlist::Netlist;
 use eco_common::Memory;
@@ -109,7 +109,7 @@ impl Netlist {
     fn next_unfinished(&self, net: u32, marks: &[Mark]) -> Option<u32>
         requires known { net < length self.now.nets }
         requires sized { length marks.now ≡ length self.now.nets }
-        ensures { MatchOption result ((a : ℕ) → Reads self.now a net → IsMark marks.now a Done) (λ a. Reads self.now a net × (IsMark marks.now a Done → ⊥)) }
+        ensures { MatchOption result ((a : ℕ) → FeedsNet self.now a net → IsMark marks.now a Done) (λ a. FeedsNet self.now a net × (IsMark marks.now a Done → ⊥)) }
     {
         let comp = match self.gate_of(net) {
             Some((comp, _)) => comp,
@@ -208,7 +208,7 @@ impl Netlist {
 
     /// The computed nets, each after all computed nets that its driver reads.
     pub(crate) fn order(&self, alloc: Global) -> Result<Vec<u32>, Stop>
-        ensures ok { IfOk result (λ order. IsOrder self.now order.items) }
+        ensures ok { IfOk result (λ order. IsEvaluationOrder self.now order.items) }
         ensures stop { IfErr result (λ e. StopIs self.now e) }
     {
         let nets = self.listed.net_count();

@@ -19,7 +19,7 @@ use Rattle.eco_elaborate.proofs.ReadingBack.{issued_reads_back}
 use Rattle.eco_elaborate.proofs.Found.{comp_said}
 use Rattle.eco_elaborate.proofs.Rewiring.{apart_is}
 use Rattle.eco_patch_laws.specs.Orders.{Placement}
-use Rattle.eco_net.specs.Joints.{Takes}
+use Rattle.eco_net.specs.Joints.{CanTake}
 use Rattle.eco_patch_laws.specs.Realisation.{patch_joints}
 use Rattle.eco_net.specs.Bases.{Base, HasBlank}
 use Rattle.eco_patch_laws.specs.Lone.{IsLone}
@@ -101,7 +101,7 @@ module _ (b : BaseParts) (open' : IsOpen b) where
     abbrev nets : List Name
     nets = one.output ∷ []
 
-    pub takes : Takes base.full nets joints
+    pub takes : CanTake base.full nets joints
     takes = base_takes_joints base [] (λ g. None) (order_of one) (placed ∷ []) patch
 
     -- ---- on a plain base

@@ -9,7 +9,7 @@ use Rattle.eco_net.specs.declared.rows.CompRow.{CompRow}
 use Rattle.eco_net.specs.Netlist.{Name, Component, Role, CompPin, role_of}
 use Rattle.eco_net.specs.Drivers.{net_of, joined_at, dir_of_role}
 use Rattle.eco_net.specs.ByNumber.{role_at}
-use Rattle.eco_net.specs.Listing.{Listing, netlist, component, pins, comp_names, pin_at, pin_named, HasPin, IsKnownPin}
+use Rattle.eco_net.specs.Listing.{Listing, netlist, component, pins, comp_names, pin_at, numbered_pin, HasPin, IsKnownPin}
 use Rattle.eco_net.specs.Kept.{IsListing}
 use Rattle.eco_net.proofs.Places.{row_of_name}
 use Rattle.eco_net.proofs.Named.{comp_is, role_is}
@@ -37,14 +37,14 @@ module _ (L : Listing) (is : IsListing L) (name : Name) (c : CompId) (g : CompAt
     pub pin_known : IsKnownPin L (Pin c k)
     pin_known = subst (λ o. HasPin o k) (sym g.is) (slice_get_within (pins g.row) k p at)
 
-    pub pin_name : pin_named L (Pin c k) ≡ CompPin name p.0
+    pub pin_name : numbered_pin L (Pin c k) ≡ CompPin name p.0
     pin_name =
         ap (λ o. pin_at o k) g.is
         ∙ ap (λ o. CompPin g.row.name (unwrap_or (option_map (λ p. p.0) o) [])) at
         ∙ ap (λ n. CompPin n p.0) g.named
 
     -- the net that the pin is on
-    pub pin_net : net_of (netlist L) (pin_named L (Pin c k)) ≡ get its.joined p.0
+    pub pin_net : net_of (netlist L) (numbered_pin L (Pin c k)) ≡ get its.joined p.0
     pin_net = ap (net_of (netlist L)) pin_name ∙ ap (λ o. joined_at o p.0) its_found
 
     pub pin_role : role_of its p.0 ≡ Some p.1

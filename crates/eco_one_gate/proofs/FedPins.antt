@@ -11,7 +11,7 @@ use Rattle.eco_embed.specs.declared.feed.Feed.{Feed}
 use Rattle.eco_patch_laws.specs.Orders.{PatchGate}
 use Rattle.eco_patch_laws.specs.Realisation.{feed_net, feed_joints, on_pin}
 use Rattle.eco_overlay.specs.declared.new_joint.NewJoint as code
-use Rattle.eco_overlay.specs.PinMoves.{named_joint}
+use Rattle.eco_overlay.specs.PinMoves.{joint_by_names}
 
 -- ---- pairs of two lists
 
@@ -33,21 +33,21 @@ zip_whole ks vs n e = take_all (zip ks vs) n (e ∙ sym (length-zip ks vs))
 module _ (low high : Name) (g : PatchGate) (spare : Name) where
   -- one pin more
   pub fed_more : (pairs : List (Name × Feed)) (old : List code.NewJoint) (e : Name × Feed) (now new : List code.NewJoint)
-      → map named_joint now ≡ map named_joint old ++ feed_joints low high g spare pairs
-      → map named_joint new ≡ map named_joint now ++ feed_joints low high g spare (e ∷ [])
-      → map named_joint new ≡ map named_joint old ++ feed_joints low high g spare (pairs ++ e ∷ [])
+      → map joint_by_names now ≡ map joint_by_names old ++ feed_joints low high g spare pairs
+      → map joint_by_names new ≡ map joint_by_names now ++ feed_joints low high g spare (e ∷ [])
+      → map joint_by_names new ≡ map joint_by_names old ++ feed_joints low high g spare (pairs ++ e ∷ [])
   fed_more pairs old e now new h s =
       s
       ∙ ap (λ js. js ++ feed_joints low high g spare (e ∷ [])) h
-      ∙ append_assoc (map named_joint old) (feed_joints low high g spare pairs) (feed_joints low high g spare (e ∷ []))
-      ∙ ap (λ js. map named_joint old ++ js) (sym (filter_map-append (λ e. option_map (on_pin spare e.0) (feed_net low high g.inputs e.1)) pairs (e ∷ [])))
+      ∙ append_assoc (map joint_by_names old) (feed_joints low high g spare pairs) (feed_joints low high g spare (e ∷ []))
+      ∙ ap (λ js. map joint_by_names old ++ js) (sym (filter_map-append (λ e. option_map (on_pin spare e.0) (feed_net low high g.inputs e.1)) pairs (e ∷ [])))
 
 -- one joint more
 pub joint_more : (old new : List code.NewJoint) (j : code.NewJoint) (comp pin net : Name) (o : Option Name)
     → new ≡ old ++ j ∷ [] → j ≡ record { comp = comp; pin = pin; net = net } → Some net ≡ o
-    → map named_joint new ≡ map named_joint old ++ cons_option (option_map (on_pin comp pin) o) []
+    → map joint_by_names new ≡ map joint_by_names old ++ cons_option (option_map (on_pin comp pin) o) []
 joint_more old new j comp pin net o e s f =
-    ap (map named_joint) e
-    ∙ map_push named_joint old j
-    ∙ ap (λ k. map named_joint old ++ named_joint k ∷ []) s
-    ∙ ap (λ o. map named_joint old ++ cons_option (option_map (on_pin comp pin) o) []) f
+    ap (map joint_by_names) e
+    ∙ map_push joint_by_names old j
+    ∙ ap (λ k. map joint_by_names old ++ joint_by_names k ∷ []) s
+    ∙ ap (λ o. map joint_by_names old ++ cons_option (option_map (on_pin comp pin) o) []) f

@@ -17,10 +17,10 @@ use Rattle.eco_lef.specs.declared.master.MasterPin.{MasterPin}
 use Rattle.eco_lef.specs.Collected.{find_master}
 use Rattle.eco_lef.specs.Names.{are_words}
 use Rattle.eco_text.specs.Tokens.{can_name}
-use Rattle.eco_net.specs.Netlist.{Name, Kind, Gate, Boxed, Role, Reads, Computes, Outside}
+use Rattle.eco_net.specs.Netlist.{Name, Kind, Gate, Boxed, Role, GateInput, GateOutput, BoxedPin}
 use Rattle.eco_net.specs.Listing.{bits_of}
 use Rattle.eco_net.proofs.Basics.{Has, has_append_left, has_append_right, has_of_map, has_map, same_Some, not_None}
-use Rattle.eco_elaborate.specs.Netlists.{pin_names}
+use Rattle.eco_elaborate.specs.Netlists.{kind_pins}
 use Rattle.eco_elaborate.specs.Stated.{named_comp, named_comps}
 use Rattle.eco_elaborate.proofs.Members.{all_has, found_passes, has_any, has_of_append, of_filter}
 use Rattle.eco_master_faults.specs.Tables.{library_pins, signal_pins, kind_by, kind_in}
@@ -54,29 +54,29 @@ abbrev tabled : MasterTables → List (Name × List Bool)
 tabled s = map (λ o. (o.pin, bits_of o.table)) s.outputs
 
 -- a gate's pin is one that its functions list
-gate_pin : (s : MasterTables) (n : Name) → Has (pin_names (Gate s.inputs (tabled s))) n → (d : Dir) × Has (function_pins s) (n, d)
+gate_pin : (s : MasterTables) (n : Name) → Has (kind_pins (Gate s.inputs (tabled s))) n → (d : Dir) × Has (function_pins s) (n, d)
 gate_pin s n h =
-    let e = has_of_map {A = Name × Role} (λ e. e.0) (map {B = Name × Role} (λ p. (p, Reads)) s.inputs ++ map {B = Name × Role} (λ o. (o.0, Computes o.1)) (tabled s)) n h in
-    ⊎_elim (input e.0 e.2) (output e.0 e.2) (has_of_append (map {B = Name × Role} (λ p. (p, Reads)) s.inputs) (map {B = Name × Role} (λ o. (o.0, Computes o.1)) (tabled s)) e.0 e.1)
+    let e = has_of_map {A = Name × Role} (λ e. e.0) (map {B = Name × Role} (λ p. (p, GateInput)) s.inputs ++ map {B = Name × Role} (λ o. (o.0, GateOutput o.1)) (tabled s)) n h in
+    ⊎_elim (input e.0 e.2) (output e.0 e.2) (has_of_append (map {B = Name × Role} (λ p. (p, GateInput)) s.inputs) (map {B = Name × Role} (λ o. (o.0, GateOutput o.1)) (tabled s)) e.0 e.1)
   where
-    input : (e : Name × Role) → e.0 ≡ n → Has (map {B = Name × Role} (λ p. (p, Reads)) s.inputs) e → (d : Dir) × Has (function_pins s) (n, d)
+    input : (e : Name × Role) → e.0 ≡ n → Has (map {B = Name × Role} (λ p. (p, GateInput)) s.inputs) e → (d : Dir) × Has (function_pins s) (n, d)
     input e same a =
-        let r = has_of_map {B = Name × Role} (λ p. (p, Reads)) s.inputs e a in
+        let r = has_of_map {B = Name × Role} (λ p. (p, GateInput)) s.inputs e a in
         let h : Has (function_pins s) (r.0, Input) = has_append_left _ _ (r.0, Input) (has_map {B = Name × Dir} (λ k. (k, Input)) s.inputs r.0 r.1) in
         (Input, subst (λ (k : Name). Has (function_pins s) (k, Input)) (ap (λ (x : Name × Role). x.0) r.2 ∙ same) h)
 
-    output : (e : Name × Role) → e.0 ≡ n → Has (map {B = Name × Role} (λ o. (o.0, Computes o.1)) (tabled s)) e → (d : Dir) × Has (function_pins s) (n, d)
+    output : (e : Name × Role) → e.0 ≡ n → Has (map {B = Name × Role} (λ o. (o.0, GateOutput o.1)) (tabled s)) e → (d : Dir) × Has (function_pins s) (n, d)
     output e same a =
-        let r = has_of_map {A = Name × List Bool} {B = Name × Role} (λ o. (o.0, Computes o.1)) (tabled s) e a in
+        let r = has_of_map {A = Name × List Bool} {B = Name × Role} (λ o. (o.0, GateOutput o.1)) (tabled s) e a in
         let q = has_of_map {B = Name × List Bool} (λ (o : OutputFn). (o.pin, bits_of o.table)) s.outputs r.0 r.1 in
         let h : Has (function_pins s) (q.0.pin, Output) = has_append_right _ _ (q.0.pin, Output) (has_map {B = Name × Dir} (λ (o : OutputFn). (o.pin, Output)) s.outputs q.0 q.1) in
         (Output, subst (λ (k : Name). Has (function_pins s) (k, Output)) (ap (λ (x : Name × List Bool). x.0) q.2 ∙ ap (λ (x : Name × Role). x.0) r.2 ∙ same) h)
 
 -- a box's pin is one that the library has in a netlist
-box_pin : (m : Master) (n : Name) → Has (pin_names (Boxed (library_pins m))) n → (d : Dir) × Has (library_pins m) (n, d)
+box_pin : (m : Master) (n : Name) → Has (kind_pins (Boxed (library_pins m))) n → (d : Dir) × Has (library_pins m) (n, d)
 box_pin m n h =
-    let e = has_of_map {A = Name × Role} (λ e. e.0) (map {B = Name × Role} (λ p. (p.0, Outside p.1)) (library_pins m)) n h in
-    let r = has_of_map {A = Name × Dir} {B = Name × Role} (λ p. (p.0, Outside p.1)) (library_pins m) e.0 e.1 in
+    let e = has_of_map {A = Name × Role} (λ e. e.0) (map {B = Name × Role} (λ p. (p.0, BoxedPin p.1)) (library_pins m)) n h in
+    let r = has_of_map {A = Name × Dir} {B = Name × Role} (λ p. (p.0, BoxedPin p.1)) (library_pins m) e.0 e.1 in
     (r.0.1, subst (λ (k : Name). Has (library_pins m) (k, r.0.1)) (ap (λ (x : Name × Role). x.0) r.2 ∙ e.2) r.1)
 
 -- ---- the pins of a design's components
@@ -91,13 +91,13 @@ module _ (t : TextParts) (fit : MastersFit t) where
       subst (Has (named_comps t.text t.design.comps)) same (has_map (named_comp t.text) t.design.comps b.0 b.1)
 
   -- its pins are in the library, whether the functions name its macro or not
-  macro_pin : (c : NamedComp) (m : Master) (n : Name) → Has (design_names t).comps c → Has t.library m → m.name ≡ c.model → Has (pin_names (kind_in t.functions m)) n → (d : Dir) × Has (library_pins m) (n, d)
+  macro_pin : (c : NamedComp) (m : Master) (n : Name) → Has (design_names t).comps c → Has t.library m → m.name ≡ c.model → Has (kind_pins (kind_in t.functions m)) n → (d : Dir) × Has (library_pins m) (n, d)
   macro_pin c m n h g same has = by (find_function m.name t.functions) refl has
     where
       used : uses (named_comps t.text t.design.comps) m.name ≡ true
       used = has_any (λ (c : NamedComp). bytes_eq c.model m.name) (named_comps t.text t.design.comps) c (comp_stated c h) ((bytes_eq-Decides c.model m.name).1 (sym same))
 
-      by : (o : Option MasterTables) → find_function m.name t.functions ≡ o → Has (pin_names (kind_by o m)) n → (d : Dir) × Has (library_pins m) (n, d)
+      by : (o : Option MasterTables) → find_function m.name t.functions ≡ o → Has (kind_pins (kind_by o m)) n → (d : Dir) × Has (library_pins m) (n, d)
       by None e k = box_pin m n k
       by (Some s) e k =
           let f = gate_pin s n k in
@@ -112,10 +112,10 @@ module _ (t : TextParts) (fit : MastersFit t) where
           (cases_Bool (has_pin m n f.0))
 
   -- so they can be printed
-  pub pin_can_name : list_all are_words t.library ≡ true → (c : NamedComp) (k : Kind) (n : Name) → Has (design_names t).comps c → kinds t c.model ≡ Some k → Has (pin_names k) n → can_name n ≡ true
+  pub pin_can_name : list_all are_words t.library ≡ true → (c : NamedComp) (k : Kind) (n : Name) → Has (design_names t).comps c → (kinds t).kind c.model ≡ Some k → Has (kind_pins k) n → can_name n ≡ true
   pin_can_name words c k n h e has =
       let m = mapped_some (kind_in t.functions) (find_master c.model t.library) k e in
       let found = found_passes (λ (m : Master). bytes_eq m.name c.model) t.library m.0 m.1 in
-      let d = macro_pin c m.0 n h found.0 ((bytes_eq-Decides m.0.name c.model).0 found.1) (subst (λ k. Has (pin_names k) n) (sym m.2) has) in
+      let d = macro_pin c m.0 n h found.0 ((bytes_eq-Decides m.0.name c.model).0 found.1) (subst (λ k. Has (kind_pins k) n) (sym m.2) has) in
       let p = library_pin m.0 n d.0 d.1 in
       pin_words t.library m.0 p.0 n words found.0 p.1 p.2

@@ -12,7 +12,7 @@ use Rattle.eco_net.specs.declared.ids.PinRef.TheVariants.{Pin}
 use Rattle.eco_net.specs.Netlist.{Name, Netlist, Component, Role, CompPin, role_of, IsNet, IsPin}
 use Rattle.eco_net.specs.Drivers.{net_of, dir_of_role}
 use Rattle.eco_net.specs.ByNumber.{role_at}
-use Rattle.eco_net.specs.Listing.{Listing, netlist, net_names, pins, pin_named, FindsPin, IsKnownPin}
+use Rattle.eco_net.specs.Listing.{Listing, netlist, net_names, pins, numbered_pin, FindsPin, IsKnownPin}
 use Rattle.eco_net.specs.Kept.{IsListing}
 use Rattle.eco_net.proofs.Basics.{Has, same_Some, not_None, has_found, has_from_contains, contains_from_has}
 use Rattle.eco_net.proofs.Places.{row_of_name}
@@ -55,10 +55,10 @@ module _ (L : Listing) (is : IsListing L) (one : OneGate) (c : CompId) (g : Comp
     pub is_known : IsKnownPin L (Pin c k)
     is_known = let p = its_pin in pin_known L is one.comp c g k p.0 p.1.0
 
-    pub its_name : pin_named L (Pin c k) ≡ CompPin one.comp one.pin
+    pub its_name : numbered_pin L (Pin c k) ≡ CompPin one.comp one.pin
     its_name = let p = its_pin in pin_name L is one.comp c g k p.0 p.1.0 ∙ ap (CompPin one.comp) p.1.1
 
-    its_net : net_of (netlist L) (pin_named L (Pin c k)) ≡ get (its L is one.comp c g).joined one.pin
+    its_net : net_of (netlist L) (numbered_pin L (Pin c k)) ≡ get (its L is one.comp c g).joined one.pin
     its_net = let p = its_pin in pin_net L is one.comp c g k p.0 p.1.0 ∙ ap (get (its L is one.comp c g).joined) p.1.1
 
     its_dir : option_map dir_of_role (role_at (slice_get L.comps c.0) k) ≡ option_map dir_of_role (role_of (its L is one.comp c g) one.pin)
@@ -67,10 +67,10 @@ module _ (L : Listing) (is : IsListing L) (one : OneGate) (c : CompId) (g : Comp
     pub reads_input : MovesInput (netlist L) one → option_map dir_of_role (role_at (slice_get L.comps c.0) k) ≡ Some Input
     reads_input s = its_dir ∙ its_input s
 
-    pub on_its_net : MovesInput (netlist L) one → net_of (netlist L) (pin_named L (Pin c k)) ≡ Some one.from_net
+    pub on_its_net : MovesInput (netlist L) one → net_of (netlist L) (numbered_pin L (Pin c k)) ≡ Some one.from_net
     on_its_net s = its_net ∙ ap (λ x. get x.joined one.pin) (sym (same s)) ∙ s.from
 
-    pub moved_pin : option_map dir_of_role (role_at (slice_get L.comps c.0) k) ≡ Some Input → net_of (netlist L) (pin_named L (Pin c k)) ≡ Some one.from_net → IsMovedPin L one c k
+    pub moved_pin : option_map dir_of_role (role_at (slice_get L.comps c.0) k) ≡ Some Input → net_of (netlist L) (numbered_pin L (Pin c k)) ≡ Some one.from_net → IsMovedPin L one c k
     moved_pin e n = record {
       moves = record {
         comp = its L is one.comp c g;

@@ -17,9 +17,9 @@ use Rattle.eco_net.specs.declared.ids.PinRef.TheVariants.{Pin}
 use Rattle.eco_net.specs.declared.kind.Kind.{Kind as Given}
 use Rattle.eco_net.specs.declared.kind.Kind.TheVariants.{Gate as GivenGate}
 use Rattle.eco_net.specs.declared.rows.CompRow.{CompRow}
-use Rattle.eco_net.specs.Netlist.{Name, name_cmp, Netlist, Kind, Gate, Component, Role, Reads, Computes, CompPin, pins_of, IsNet}
+use Rattle.eco_net.specs.Netlist.{Name, name_cmp, Netlist, Kind, Gate, Component, Role, GateInput, GateOutput, CompPin, pins_of, IsNet}
 use Rattle.eco_net.specs.Changes.{with_comp, with_pin_on, on_net}
-use Rattle.eco_net.specs.Listing.{Listing, netlist, pins, pin_named, kind_of, bits_of, with_joint, IsKnownPin}
+use Rattle.eco_net.specs.Listing.{Listing, netlist, pins, numbered_pin, given_kind, bits_of, with_joint, IsKnownPin}
 use Rattle.eco_net.proofs.Basics.{same_Some, not_None, same_name, cmp_apart, get_same, get_other}
 use Rattle.eco_net.proofs.Places.{name_of_row, push_last}
 use Rattle.eco_net.proofs.Numbers.{new_pin_known, new_pin_named, same_pin_known, same_pin_named}
@@ -113,7 +113,7 @@ gate_on kind es = record { kind = kind; place = None; joined = from_entries es }
 -- The netlist is the base with the gate, whose pins are on these nets. The gate's pins have these numbers and names.
 pub record IsPatching (base : Netlist) (L : Listing) (gate : CompId) (kind : Kind) (es : List (Name × Name)) : Type 0 where
   pub names : netlist L ≡ record base { comps = insert base.comps patch (gate_on kind es) }
-  pub pins : (k : ℕ) (p : Name × Role) → slice_get (pins_of kind) k ≡ Some p → IsKnownPin L (Pin gate k) × (pin_named L (Pin gate k) ≡ CompPin patch p.0)
+  pub pins : (k : ℕ) (p : Name × Role) → slice_get (pins_of kind) k ≡ Some p → IsKnownPin L (Pin gate k) × (numbered_pin L (Pin gate k) ≡ CompPin patch p.0)
 
 over : {X : Type 0} (m : FinMap name_cmp X) (k : Name) (v w : X) → insert (insert m k v) k w ≡ insert m k w
 over {X = X} m k v w = same_map nat_list_cmp_total exact_bytes _ _ (λ q. at q (same_name q k))
@@ -124,22 +124,22 @@ over {X = X} m k v w = same_map nat_list_cmp_total exact_bytes _ _ (λ q. at q (
 
 -- the gate is there with its unconnected pins
 pub patch_begins : (L M : Listing) (gate : CompId) (given : Given) (row : CompRow)
-    → M ≡ record L { comps = L.comps ++ row ∷ [] } → row.name ≡ patch → row.kind ≡ given → gate.0 ≡ length L.comps → netlist M ≡ with_comp (netlist L) patch (kind_of given) None
-    → IsPatching (netlist L) M gate (kind_of given) []
+    → M ≡ record L { comps = L.comps ++ row ∷ [] } → row.name ≡ patch → row.kind ≡ given → gate.0 ≡ length L.comps → netlist M ≡ with_comp (netlist L) patch (given_kind given) None
+    → IsPatching (netlist L) M gate (given_kind given) []
 patch_begins L M gate given row new name kind number named = record {
   names = named;
   pins = λ k p e.
-      let at : slice_get (pins row) k ≡ Some p = ap (λ g. slice_get (pins_of (kind_of g)) k) kind ∙ e in
+      let at : slice_get (pins row) k ≡ Some p = ap (λ g. slice_get (pins_of (given_kind g)) k) kind ∙ e in
       let id : record { 0 = length L.comps } ≡ gate = λ i. record { 0 = sym number i } in
-      subst (λ (d : CompId). IsKnownPin M (Pin d k) × (pin_named M (Pin d k) ≡ CompPin patch p.0)) id
-      (subst (λ N. IsKnownPin N (Pin (record { 0 = length L.comps }) k) × (pin_named N (Pin (record { 0 = length L.comps }) k) ≡ CompPin patch p.0)) (sym new)
+      subst (λ (d : CompId). IsKnownPin M (Pin d k) × (numbered_pin M (Pin d k) ≡ CompPin patch p.0)) id
+      (subst (λ N. IsKnownPin N (Pin (record { 0 = length L.comps }) k) × (numbered_pin N (Pin (record { 0 = length L.comps }) k) ≡ CompPin patch p.0)) (sym new)
       (new_pin_known L row k (slice_get_within (pins row) k p at), new_pin_named L row k p at ∙ ap (λ n. CompPin n p.0) name));
 }
 
 -- one of its pins more is on a net
 pub patch_more : (base : Netlist) (L M : Listing) (gate : CompId) (kind : Kind) (es : List (Name × Name)) (k n : ℕ) (p : Name × Role) (net : Name)
     → IsPatching base L gate kind es → slice_get (pins_of kind) k ≡ Some p → find name_cmp p.0 es ≡ None
-    → M ≡ record L { comps = with_joint L.comps gate.0 k n } → netlist M ≡ with_pin_on (netlist L) (pin_named L (Pin gate k)) net
+    → M ≡ record L { comps = with_joint L.comps gate.0 k n } → netlist M ≡ with_pin_on (netlist L) (numbered_pin L (Pin gate k)) net
     → IsPatching base M gate kind (es ++ (p.0, net) ∷ [])
 patch_more base L M gate kind es k n p net is at new rows named = record {
   names =
@@ -151,7 +151,7 @@ patch_more base L M gate kind es k n p net is at new rows named = record {
       ∙ ap (λ (j : FinMap name_cmp Name). record base { comps = insert base.comps patch (record { kind = kind; place = None; joined = j }) }) (sym (from_entries_push nat_list_cmp_total exact_bytes es p.0 net new));
   pins = λ j q e.
       let old = is.pins j q e in
-      subst (λ N. IsKnownPin N (Pin gate j) × (pin_named N (Pin gate j) ≡ CompPin patch q.0)) (sym rows)
+      subst (λ N. IsKnownPin N (Pin gate j) × (numbered_pin N (Pin gate j) ≡ CompPin patch q.0)) (sym rows)
       (same_pin_known L gate.0 k (Some n) (Pin gate j) old.0, same_pin_named L gate.0 k (Some n) (Pin gate j) ∙ old.1);
 }
 
@@ -163,11 +163,11 @@ in_front (x ∷ xs) ys zero z e = e
 in_front (x ∷ xs) ys (suc k) z e = in_front xs ys k z e
 
 abbrev pub patch_kind : TruthTable → Kind
-patch_kind t = kind_of (GivenGate (patch_tables t))
+patch_kind t = given_kind (GivenGate (patch_tables t))
 
-input_at : (t : TruthTable) (k : ℕ) → k < t.inputs → slice_get (pins_of (patch_kind t)) k ≡ Some (input_pin k, Reads)
-input_at t k h = in_front (map {B = Name × Role} (λ p. (p, Reads)) (map input_pin (range_with_len 0 t.inputs))) ((output_pin, Computes (bits_of t)) ∷ []) k (input_pin k, Reads)
-    (name_of_row {B = Name × Role} (λ p. (p, Reads)) (map input_pin (range_with_len 0 t.inputs)) k (input_pin k)
+input_at : (t : TruthTable) (k : ℕ) → k < t.inputs → slice_get (pins_of (patch_kind t)) k ≡ Some (input_pin k, GateInput)
+input_at t k h = in_front (map {B = Name × Role} (λ p. (p, GateInput)) (map input_pin (range_with_len 0 t.inputs))) ((output_pin, GateOutput (bits_of t)) ∷ []) k (input_pin k, GateInput)
+    (name_of_row {B = Name × Role} (λ p. (p, GateInput)) (map input_pin (range_with_len 0 t.inputs)) k (input_pin k)
     (name_of_row input_pin (range_with_len 0 t.inputs) k k (in_range 0 t.inputs k h ∙ ap Some (zero-add k))))
   where
     in_range : (a n k : ℕ) → k < n → slice_get (range_with_len a n) k ≡ Some (a + k)
@@ -175,37 +175,37 @@ input_at t k h = in_front (map {B = Name × Role} (λ p. (p, Reads)) (map input_
     in_range a (suc n) zero h = ap Some (omega arith)
     in_range a (suc n) (suc k) h = in_range (a + 1) n k (omega (arith, h)) ∙ ap Some (omega arith)
 
-output_at : (t : TruthTable) → slice_get (pins_of (patch_kind t)) t.inputs ≡ Some (output_pin, Computes (bits_of t))
+output_at : (t : TruthTable) → slice_get (pins_of (patch_kind t)) t.inputs ≡ Some (output_pin, GateOutput (bits_of t))
 output_at t =
     ap (slice_get (pins_of (patch_kind t))) (sym count)
-    ∙ push_last (map {B = Name × Role} (λ p. (p, Reads)) (map input_pin (range_with_len 0 t.inputs))) (output_pin, Computes (bits_of t))
+    ∙ push_last (map {B = Name × Role} (λ p. (p, GateInput)) (map input_pin (range_with_len 0 t.inputs))) (output_pin, GateOutput (bits_of t))
   where
-    count : length (map {B = Name × Role} (λ p. (p, Reads)) (map input_pin (range_with_len 0 t.inputs))) ≡ t.inputs
-    count = length-map {B = Name × Role} (map input_pin (range_with_len 0 t.inputs)) (λ p. (p, Reads)) ∙ length-map (range_with_len 0 t.inputs) input_pin ∙ length-range_with_len 0 t.inputs
+    count : length (map {B = Name × Role} (λ p. (p, GateInput)) (map input_pin (range_with_len 0 t.inputs))) ≡ t.inputs
+    count = length-map {B = Name × Role} (map input_pin (range_with_len 0 t.inputs)) (λ p. (p, GateInput)) ∙ length-map (range_with_len 0 t.inputs) input_pin ∙ length-range_with_len 0 t.inputs
 
 pub input_known : (base : Netlist) (L : Listing) (gate : CompId) (t : TruthTable) (es : List (Name × Name)) (k : ℕ) → IsPatching base L gate (patch_kind t) es → k < t.inputs → IsKnownPin L (Pin gate k)
-input_known base L gate t es k is h = (is.pins k (input_pin k, Reads) (input_at t k h)).0
+input_known base L gate t es k is h = (is.pins k (input_pin k, GateInput) (input_at t k h)).0
 
 pub output_known : (base : Netlist) (L : Listing) (gate : CompId) (t : TruthTable) (es : List (Name × Name)) → IsPatching base L gate (patch_kind t) es → IsKnownPin L (Pin gate t.inputs)
-output_known base L gate t es is = (is.pins t.inputs (output_pin, Computes (bits_of t)) (output_at t)).0
+output_known base L gate t es is = (is.pins t.inputs (output_pin, GateOutput (bits_of t)) (output_at t)).0
 
 pub input_more : (base : Netlist) (L M : Listing) (gate : CompId) (t : TruthTable) (inputs : List Name) (k n : ℕ) (net : Name)
     → IsPatching base L gate (patch_kind t) (take k (input_pins inputs)) → k < t.inputs → slice_get inputs k ≡ Some net
-    → M ≡ record L { comps = with_joint L.comps gate.0 k n } → netlist M ≡ with_pin_on (netlist L) (pin_named L (Pin gate k)) net
+    → M ≡ record L { comps = with_joint L.comps gate.0 k n } → netlist M ≡ with_pin_on (netlist L) (numbered_pin L (Pin gate k)) net
     → IsPatching base M gate (patch_kind t) (take (k + 1) (input_pins inputs))
 input_more base L M gate t inputs k n net is h at rows named =
     let first : 0 + k ≡ k = omega arith in
     let next : suc k ≡ k + 1 = omega arith in
     subst (IsPatching base M gate (patch_kind t)) (sym (one_more 0 inputs k net at ∙ ap (λ b. take k (input_pins inputs) ++ (input_pin b, net) ∷ []) first) ∙ ap (λ j. take j (input_pins inputs)) next)
-    (patch_more base L M gate (patch_kind t) (take k (input_pins inputs)) k n (input_pin k, Reads) net is (input_at t k h) (not_among 0 k inputs k (omega arith)) rows named)
+    (patch_more base L M gate (patch_kind t) (take k (input_pins inputs)) k n (input_pin k, GateInput) net is (input_at t k h) (not_among 0 k inputs k (omega arith)) rows named)
 
 pub output_more : (base : Netlist) (L M : Listing) (gate : CompId) (one : OneGate) (n : ℕ)
     → length one.inputs.items ≡ one.table.inputs
     → IsPatching base L gate (patch_kind one.table) (input_pins one.inputs.items)
-    → M ≡ record L { comps = with_joint L.comps gate.0 one.table.inputs n } → netlist M ≡ with_pin_on (netlist L) (pin_named L (Pin gate one.table.inputs)) one.output
+    → M ≡ record L { comps = with_joint L.comps gate.0 one.table.inputs n } → netlist M ≡ with_pin_on (netlist L) (numbered_pin L (Pin gate one.table.inputs)) one.output
     → netlist M ≡ record base { comps = insert base.comps patch (patch_component (gate_of one) None) }
 output_more base L M gate one n rows is new named =
-    (patch_more base L M gate (patch_kind one.table) (input_pins one.inputs.items) one.table.inputs n (output_pin, Computes (bits_of one.table)) one.output is (output_at one.table) (no_output 0 one.inputs.items) new named).names
+    (patch_more base L M gate (patch_kind one.table) (input_pins one.inputs.items) one.table.inputs n (output_pin, GateOutput (bits_of one.table)) one.output is (output_at one.table) (no_output 0 one.inputs.items) new named).names
     ∙ ap (λ ins. record base { comps = insert base.comps patch (record { kind = Gate ins ((output_pin, bits_of one.table) ∷ []); place = None; joined = from_entries (input_pins one.inputs.items ++ (output_pin, one.output) ∷ []) }) })
     (sym (pins_named one.inputs.items ∙ ap (λ k. map input_pin (range_with_len 0 k)) rows))
 
@@ -218,7 +218,7 @@ pub patch_ends : (base : Netlist) (L M : Listing) (gate : CompId) (one : OneGate
     → length one.inputs.items ≡ one.table.inputs
     → IsPatching base L gate (patch_kind one.table) (input_pins one.inputs.items)
     → OnOk r ((n : ℕ) × (M ≡ record L { comps = with_joint L.comps gate.0 one.table.inputs n }))
-    → OnOk r (netlist M ≡ with_pin_on (netlist L) (pin_named L (Pin gate one.table.inputs)) one.output)
+    → OnOk r (netlist M ≡ with_pin_on (netlist L) (numbered_pin L (Pin gate one.table.inputs)) one.output)
     → OnOk r (netlist M ≡ record base { comps = insert base.comps patch (patch_component (gate_of one) None) })
 patch_ends base L M gate one (Ok x) rows is new named = output_more base L M gate one new.0 rows is new.1 named
 patch_ends base L M gate one (Err e) rows is new named = tt

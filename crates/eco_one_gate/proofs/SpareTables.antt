@@ -18,9 +18,9 @@ use Rattle.eco_embed.specs.Feeds.{feed_bit, feed_value, fed_row, is_among, is_ze
 use Rattle.eco_embed.specs.Embeddings as master
 use Rattle.eco_embed.proofs.ListLaws.{all_bits}
 use Rattle.eco_net.specs.declared.kind.Kind.TheVariants.{Gate as GivenGate}
-use Rattle.eco_net.specs.Netlist.{Name, name_cmp, Component, Role, Reads, Computes, pins_of, role_of, input_names}
+use Rattle.eco_net.specs.Netlist.{Name, name_cmp, Component, Role, GateInput, GateOutput, pins_of, role_of, input_names}
 use Rattle.eco_net.specs.Valuation.{table_value}
-use Rattle.eco_net.specs.Listing.{bits_of, kind_of}
+use Rattle.eco_net.specs.Listing.{bits_of, given_kind}
 use Rattle.eco_net.proofs.GateTables.{look_is}
 use Rattle.eco_net.proofs.Basics.{Has, same_Some, contains_from_has, has_from_contains}
 use Rattle.eco_net.proofs.Places.{push_last}
@@ -85,10 +85,10 @@ zeros (suc n) = zeros n
 abbrev pub embedding : List Feed → Embedding
 embedding feeds = record { output = 0; pins = feeds ++ replicate (6 - length feeds) Zero }
 
-same_table : {t u : List Bool} → Some (Computes t) ≡ Some (Computes u) → t ≡ u
+same_table : {t u : List Bool} → Some (GateOutput t) ≡ Some (GateOutput u) → t ≡ u
 same_table e = cc
 
-module _ (one : OneGate) (m : MasterTables) (o : OutputFn) (x : Component) (is : is_master m.inputs m.outputs ≡ true) (outs : m.outputs ≡ o ∷ []) (kind : x.kind ≡ kind_of (GivenGate m)) (rows : length one.inputs.items ≡ one.table.inputs) where
+module _ (one : OneGate) (m : MasterTables) (o : OutputFn) (x : Component) (is : is_master m.inputs m.outputs ≡ true) (outs : m.outputs ≡ o ∷ []) (kind : x.kind ≡ given_kind (GivenGate m)) (rows : length one.inputs.items ≡ one.table.inputs) where
   abbrev feeds : List Feed
   feeds = one.feeds.items
 
@@ -101,16 +101,16 @@ module _ (one : OneGate) (m : MasterTables) (o : OutputFn) (x : Component) (is :
       eqb-true o.table.inputs (length m.inputs)
       (and_parts (o.table.inputs == length m.inputs) true (ap (list_all (λ (o : OutputFn). o.table.inputs == length m.inputs)) (sym outs) ∙ said.tables)).0
 
-  last : slice_get (pins_of (kind_of (GivenGate m))) (length m.inputs) ≡ Some (o.pin, Computes (bits_of o.table))
+  last : slice_get (pins_of (given_kind (GivenGate m))) (length m.inputs) ≡ Some (o.pin, GateOutput (bits_of o.table))
   last =
-      ap (λ os. slice_get (map {B = Name × Role} (λ p. (p, Reads)) m.inputs ++ map {B = Name × Role} (λ o. (o.0, Computes o.1)) (map {B = Name × List Bool} (λ (o : OutputFn). (o.pin, bits_of o.table)) os)) (length m.inputs)) outs
-      ∙ ap (slice_get (map {B = Name × Role} (λ p. (p, Reads)) m.inputs ++ (o.pin, Computes (bits_of o.table)) ∷ [])) (sym (length-map m.inputs (λ p. (p, Reads))))
-      ∙ push_last (map {B = Name × Role} (λ p. (p, Reads)) m.inputs) (o.pin, Computes (bits_of o.table))
+      ap (λ os. slice_get (map {B = Name × Role} (λ p. (p, GateInput)) m.inputs ++ map {B = Name × Role} (λ o. (o.0, GateOutput o.1)) (map {B = Name × List Bool} (λ (o : OutputFn). (o.pin, bits_of o.table)) os)) (length m.inputs)) outs
+      ∙ ap (slice_get (map {B = Name × Role} (λ p. (p, GateInput)) m.inputs ++ (o.pin, GateOutput (bits_of o.table)) ∷ [])) (sym (length-map m.inputs (λ p. (p, GateInput))))
+      ∙ push_last (map {B = Name × Role} (λ p. (p, GateInput)) m.inputs) (o.pin, GateOutput (bits_of o.table))
 
-  pub output_computes : role_of x o.pin ≡ Some (Computes (bits_of o.table))
+  pub output_computes : role_of x o.pin ≡ Some (GateOutput (bits_of o.table))
   output_computes =
       ap (λ k. find name_cmp o.pin (pins_of k)) kind
-      ∙ find_at (pins_of (kind_of (GivenGate m))) (length m.inputs) (o.pin, Computes (bits_of o.table)) (gate_is_kind m is).apart last
+      ∙ find_at (pins_of (given_kind (GivenGate m))) (length m.inputs) (o.pin, GateOutput (bits_of o.table)) (gate_is_kind m is).apart last
 
   module _ (count : length feeds ≡ length m.inputs) where
     taken : take (length m.inputs) (feeds ++ replicate (6 - length feeds) Zero) ≡ feeds

@@ -14,7 +14,7 @@ use Rattle.eco_func.specs.Masters.{MasterTables, is_master}
 use Rattle.eco_func.proofs.Places.{place_is, no_place}
 use Rattle.eco_net.specs.declared.kind.Kind.TheVariants.{Gate as GivenGate}
 use Rattle.eco_net.specs.Netlist.{Name, Gate, Component}
-use Rattle.eco_net.specs.Listing.{kind_of, bits_of}
+use Rattle.eco_net.specs.Listing.{given_kind, bits_of}
 use Rattle.eco_net.proofs.Basics.{Has, same_Some, has_map, has_of_map, has_from_contains, contains_from_has}
 use Rattle.eco_net.proofs.GateNames.{has_at}
 use Rattle.eco_net.proofs.Places.{at_place}
@@ -53,7 +53,7 @@ pub record SpareAt (t : TextParts) (name : Name) (m : MasterTables) : Type 0 whe
   pub comp : Component
   pub stock : Contains (stock_names t) name
   pub found : get (full_netlist t).comps name ≡ Some comp
-  pub kind : comp.kind ≡ kind_of (GivenGate m)
+  pub kind : comp.kind ≡ given_kind (GivenGate m)
 
 module _ (b : BaseParts) (is : IsOpen b) (name : Name) where
   abbrev pub has_name : Spare → Bool

@@ -12,7 +12,7 @@ use Rattle.eco_net.specs.declared.ids.PinRef.TheVariants.{Pin}
 use Rattle.eco_net.specs.declared.kind.Kind.TheVariants.{Gate}
 use Rattle.eco_net.specs.Netlist.{Name, Netlist, Component, CompPin, role_of, IsNet}
 use Rattle.eco_net.specs.Drivers.{dir_of_role}
-use Rattle.eco_net.specs.Listing.{Listing, netlist, pin_named, kind_of, IsKnownPin}
+use Rattle.eco_net.specs.Listing.{Listing, netlist, numbered_pin, given_kind, IsKnownPin}
 use Rattle.eco_common.specs.Joints.{NewJoint}
 use Rattle.eco_patch_laws.specs.Insertion.{move_joint, input_pin, output_pin, with_moves, inserted}
 use Rattle.eco_patch_laws.specs.Realisation.{on_pin, feed_joints}
@@ -25,7 +25,7 @@ use Rattle.eco_one_gate.specs.OneGates.{gate_of, move_of, order_of, IsOneSpare}
 pub record IsSpareGate (base : Base) (name : Name) (m : MasterTables) : Type 0 where
   pub spare : IsOneSpare base name
   pub master : is_master m.inputs m.outputs ≡ true
-  pub kind : spare.comp.kind ≡ kind_of (Gate m)
+  pub kind : spare.comp.kind ≡ given_kind (Gate m)
   pub output : OutputFn
   pub one : m.outputs ≡ output ∷ []
 
@@ -40,7 +40,7 @@ pub record MovesInput (N : Netlist) (one : OneGate) : Type 0 where
 pub record IsMovedPin (L : Listing) (one : OneGate) (comp : CompId) (pin : ℕ) : Type 0 where
   pub moves : MovesInput (netlist L) one
   pub known : IsKnownPin L (Pin comp pin)
-  pub named : pin_named L (Pin comp pin) ≡ CompPin one.comp one.pin
+  pub named : numbered_pin L (Pin comp pin) ≡ CompPin one.comp one.pin
 
 -- a good order on a netlist without the stock, but that a signal may run in a circle
 pub record IsKnownOrder (N : Netlist) (one : OneGate) : Type 0 where

@@ -26,7 +26,7 @@ fn ready_master<'a>(base: &'a Base, alloc: Global, one: &OneGate) -> Result<&'a 
         return Err(OneFault::NotSpare);
     };
     let netlist = base.netlist();
-    let _counts = netlist.counts();
+    netlist.facts();
     let Some((comp, pin)) = known_order(netlist, one) else {
         return Err(OneFault::BadOrder);
     };

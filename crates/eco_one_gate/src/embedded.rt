@@ -5,7 +5,7 @@ ghost use Rattle.eco_embed.specs.declared.feed.Feed.TheVariants.{Zero as Low};
 ghost use Rattle.eco_func.specs.declared.output.OutputFn.{OutputFn};
 ghost use Rattle.eco_net.specs.Netlist.{Component};
 ghost use Rattle.eco_net.specs.declared.kind.Kind.TheVariants.{Gate as OfMaster};
-ghost use Rattle.eco_net.specs.Listing.{kind_of};
+ghost use Rattle.eco_net.specs.Listing.{given_kind};
 ghost use Rattle.eco_one_gate.specs.OneGates.{IsEmbedded};
 
 use crate::one_gate::OneGate;
@@ -26,7 +26,7 @@ fn embedding_of(feeds: &[Feed]) -> Embedding
 /// Whether a master of one output is the gate with its inputs put on the feeds.
 pub(crate) fn is_embedded(master: &MasterFn, one: &OneGate) -> bool
     requires { length one.now.inputs.items ≡ one.now.table.inputs }
-    ensures { (x : Component) (o : OutputFn) → x.kind ≡ kind_of (OfMaster master.now) → master.now.outputs ≡ o ∷ [] → IsTrue result ↔ IsEmbedded one.now x o.pin }
+    ensures { (x : Component) (o : OutputFn) → x.kind ≡ given_kind (OfMaster master.now) → master.now.outputs ≡ o ∷ [] → IsTrue result ↔ IsEmbedded one.now x o.pin }
 {
     let feeds = one.feeds.as_slice();
     if feeds.len() != master.inputs().len() {

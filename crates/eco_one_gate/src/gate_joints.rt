@@ -5,7 +5,7 @@ ghost use Rattle.std.specs.List.{zip};
 ghost use Rattle.eco_patch_laws.specs.Realisation.{feed_net as net_of_feed, feed_joints};
 ghost use Rattle.eco_one_gate.specs.OneGates.{gate_of};
 ghost use Rattle.eco_one_gate.specs.OneSteps.{lone_joints};
-ghost use Rattle.eco_overlay.specs.PinMoves.{named_joint};
+ghost use Rattle.eco_overlay.specs.PinMoves.{joint_by_names};
 
 use crate::one_gate::OneGate;
 use eco_common::{Memory, Name};
@@ -45,7 +45,7 @@ fn add_fed(
     feed: Feed,
     joints: &mut Vec<NewJoint>,
 ) -> Result<(), Memory>
-    ensures { OnOk result (map named_joint joints.new.items ≡ map named_joint joints.old.items ++ feed_joints low.now high.now (gate_of one.now) one.now.spare ((pin.now, feed) ∷ [])) }
+    ensures { OnOk result (map joint_by_names joints.new.items ≡ map joint_by_names joints.old.items ++ feed_joints low.now high.now (gate_of one.now) one.now.spare ((pin.now, feed) ∷ [])) }
 {
     if let Some(net) = feed_net(low, high, &one.inputs, feed) {
         joints.push(joint(alloc, &one.spare, pin, net)?)?;
@@ -62,7 +62,7 @@ fn add_all_fed(
     pins: &[Name],
     joints: &mut Vec<NewJoint>,
 ) -> Result<(), Memory>
-    ensures { OnOk result (map named_joint joints.new.items ≡ map named_joint joints.old.items ++ feed_joints low.now high.now (gate_of one.now) one.now.spare (zip pins.now one.now.feeds.items)) }
+    ensures { OnOk result (map joint_by_names joints.new.items ≡ map joint_by_names joints.old.items ++ feed_joints low.now high.now (gate_of one.now) one.now.spare (zip pins.now one.now.feeds.items)) }
 {
     for (pin, feed) in pins.iter().zip(one.feeds.iter()) {
         add_fed(alloc, low, high, one, pin, *feed, joints)?;
@@ -79,7 +79,7 @@ pub(crate) fn gate_joints(
     inputs: &[Name],
     output: &Name,
 ) -> Result<Vec<NewJoint>, Memory>
-    ensures { IfOk result (λ joints. map named_joint joints.items ≡ lone_joints low.now high.now one.now inputs.now output.now) }
+    ensures { IfOk result (λ joints. map joint_by_names joints.items ≡ lone_joints low.now high.now one.now inputs.now output.now) }
 {
     let mut joints = Vec::new(alloc);
     joints.push(joint(alloc, &one.comp, &one.pin, &one.output)?)?;

@@ -6,7 +6,7 @@ ghost use Rattle.eco_common.specs.declared.geometry.Dir.TheVariants.{Input};
 ghost use Rattle.eco_net.specs.declared.ids.PinRef.{PinRef};
 ghost use Rattle.eco_net.specs.Drivers.{net_of, dir_of_role};
 ghost use Rattle.eco_net.specs.ByNumber.{role_at};
-ghost use Rattle.eco_net.specs.Listing.{netlist as listed, pin_named, IsKnownPin};
+ghost use Rattle.eco_net.specs.Listing.{netlist as listed, numbered_pin, IsKnownPin};
 
 use eco_common::Dir;
 use eco_net::{CompId, Netlist, PinRef};
@@ -25,7 +25,7 @@ pub(crate) fn is_input(netlist: &Netlist, comp: CompId, pin: u32) -> bool
 /// The name of the net that a pin is on.
 pub(crate) fn net_at(netlist: &Netlist, comp: CompId, pin: u32) -> Option<&[u8]>
     requires { IsKnownPin netlist.now (PinRef.Pin comp pin) }
-    ensures { option_copied result ≡ net_of (listed netlist.now) (pin_named netlist.now (PinRef.Pin comp pin)) }
+    ensures { option_copied result ≡ net_of (listed netlist.now) (numbered_pin netlist.now (PinRef.Pin comp pin)) }
 {
     match netlist.net_of(PinRef::Pin(comp, pin)) {
         Some(net) => Some(netlist.net_name(net)),

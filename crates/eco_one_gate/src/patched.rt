@@ -7,7 +7,7 @@ ghost use Rattle.eco_net.specs.declared.ids.PinRef.{PinRef};
 ghost use Rattle.eco_net.specs.Netlist.{Name as Bytes, Netlist as Named, IsNet};
 ghost use Rattle.eco_net.specs.Walks.{IsLoopFree};
 ghost use Rattle.eco_net.specs.Changes.{with_pin_on};
-ghost use Rattle.eco_net.specs.Listing.{netlist as listed, pin_named, with_joint, IsKnownPin};
+ghost use Rattle.eco_net.specs.Listing.{netlist as listed, numbered_pin, with_joint, IsKnownPin};
 ghost use Rattle.eco_patch_laws.specs.Insertion.{patch_name, patch_component};
 ghost use Rattle.eco_one_gate.specs.OneGates.{gate_of};
 ghost use Rattle.eco_one_gate.specs.OneSteps.{IsMovedPin, IsKnownOrder, moved_on, patched_on};
@@ -23,7 +23,7 @@ fn put_on(maker: &mut NetlistMaker, comp: CompId, pin: u32, net: &[u8]) -> Resul
     requires pin { IsKnownPin maker.old (PinRef.Pin comp pin) }
     requires net { IsNet (listed maker.old) net.now }
     ensures rows { OnOk result ((n : ℕ) × (maker.new ≡ record maker.old { comps = with_joint maker.old.comps comp.0 pin n })) }
-    ensures named { OnOk result (listed maker.new ≡ with_pin_on (listed maker.old) (pin_named maker.old (PinRef.Pin comp pin)) net.now) }
+    ensures named { OnOk result (listed maker.new ≡ with_pin_on (listed maker.old) (numbered_pin maker.old (PinRef.Pin comp pin)) net.now) }
 {
     match maker.find_net(net) {
         Some(net) => maker.join(comp, pin, net),
@@ -42,12 +42,12 @@ fn insert_gate(alloc: Global, maker: &mut NetlistMaker, one: &OneGate) -> Result
 {
     let master = patch_master(alloc, one.table)?;
     let gate = maker.add_comp(alloc, b" ", Kind::Gate(master), None)?;
-    let _at_most_six = one.table.inputs();
+    let count = u32::from(one.table.inputs());
     let inputs = one.inputs.as_slice();
     for (place, input) in inputs.iter().enumerate() {
         put_on(maker, gate, place as u32, input.bytes())?;
     }
-    put_on(maker, gate, inputs.len() as u32, one.output.bytes())
+    put_on(maker, gate, count, one.output.bytes())
 }
 
 /// The netlist with the new net and the pin moved to it.

@@ -19,13 +19,13 @@ use Rattle.eco_def.specs.declared.design.Design.{Design}
 use Rattle.eco_def.specs.View.{design_in, pin_in}
 use Rattle.eco_def.specs.Named.{NamedJoint, names_of, pin_names}
 use Rattle.eco_common.specs.KnownNames.{knows}
-use Rattle.eco_issued_laws.specs.Changes.{NewJoint, Fresh, Changes, is_nil, is_of, pin_of, pin_precedes, precedes, in_order, stays_on, stands, has_statement, new_pins, once_each, stated_first, fresh_nets, changes_of}
+use Rattle.eco_issued_laws.specs.Changes.{NewJoint, Fresh, Changes, is_nil, is_joint_of, pin_joint, pin_precedes, precedes, in_order, stays_on, stands, has_statement, new_pins, once_each, stated_first, fresh_nets, changes_of}
 use Rattle.eco_overlay.specs.declared.pin_move.PinMove.{PinMove}
 use Rattle.eco_overlay.specs.declared.new_joint.NewJoint as code
 use Rattle.eco_overlay.specs.declared.net_changes.NetChanges.{NetChanges}
 use Rattle.eco_text.specs.Cursor.{word_bytes}
-use Rattle.eco_overlay.specs.PinMoves.{new_joint, named_joint, moved_pin, pin_cmp, marked_in, stands_in, AreInOrder, AreMarked, ArePinsApart, same_pin, are_pins_apart}
-use Rattle.eco_overlay.specs.NetChanges.{coming, pins_on, pins_for, is_statement_of, fresh_of, changes_in, first_stated}
+use Rattle.eco_overlay.specs.PinMoves.{new_joint, joint_by_names, moved_pin, pin_cmp, marked_in, stands_in, AreInOrder, AreMarked, ArePinsApart, same_pin, are_pins_apart}
+use Rattle.eco_overlay.specs.NetChanges.{coming, moves_on, pins_for, is_statement_of, fresh_of, changes_in, nets_first_stated}
 use Rattle.eco_overlay.proofs.Sorting.{SameSums, Ascends, ascends_sorted, in_order_is, map_sums, filter_sums}
 use Rattle.eco_overlay.proofs.Orders.{eq_sym, pins_linear, names_linear, pins_ascend, precedes_is}
 use Rattle.eco_overlay.proofs.Readings.{either_is, ordinary_is, stands_is}
@@ -55,9 +55,9 @@ all_any p (x ∷ xs) = at (p x) (all_any p xs)
 
 pub same_stays : (xs ys : List NewJoint) → IsPermutation xs ys → stays_on ys ≡ stays_on xs
 same_stays xs ys moved = fun_ext (λ (net : List ℕ). fun_ext (λ (j : NamedJoint).
-    all_any (λ n. not (is_of n j) || bytes_eq n.net net) ys
-    ∙ ap not (sym (list_any-IsPermutation (λ n. not (not (is_of n j) || bytes_eq n.net net)) xs ys moved))
-    ∙ sym (all_any (λ n. not (is_of n j) || bytes_eq n.net net) xs)))
+    all_any (λ n. not (is_joint_of n j) || bytes_eq n.net net) ys
+    ∙ ap not (sym (list_any-IsPermutation (λ n. not (not (is_joint_of n j) || bytes_eq n.net net)) xs ys moved))
+    ∙ sym (all_any (λ n. not (is_joint_of n j) || bytes_eq n.net net) xs)))
 
 -- ---- the pins that come
 
@@ -99,13 +99,13 @@ new_pins_are text d old new net none are =
     let each : (m : PinMove) → m.stands ≡ false → wanted (new_joint m) ≡ comes (marked_in text d.nets m) =
     λ m off. ap (λ b. b && not (stands ((names_of (design_in text d)).special ++ (names_of (design_in text d)).nets) (new_joint m))) (eq_sym m.net.now net)
     ∙ ap (λ b. bytes_eq net m.net.now && not b) (stands_is text (new_joint m) d ∙ sym (ap (λ b. b || stands_in text (new_joint m) d.nets) off)) in
-    let same : SameSums (map pin_of (filter wanted (map new_joint old))) (map moved_pin (coming new net)) =
-    λ f. map_sums pin_of f (filter wanted (map new_joint old)) ∙ filter_sums wanted (λ n. f (pin_of n)) (map new_joint old) ∙ map_sums new_joint (λ n. if wanted n then f (pin_of n) else 0) old
+    let same : SameSums (map pin_joint (filter wanted (map new_joint old))) (map moved_pin (coming new net)) =
+    λ f. map_sums pin_joint f (filter wanted (map new_joint old)) ∙ filter_sums wanted (λ n. f (pin_joint n)) (map new_joint old) ∙ map_sums new_joint (λ n. if wanted n then f (pin_joint n) else 0) old
     ∙ unmarked_sums (λ m. if wanted (new_joint m) then f (moved_pin m) else 0) (λ m. if comes (marked_in text d.nets m) then f (moved_pin m) else 0) old none (λ m off. ap (λ b. if b then f (moved_pin m) else 0) (each m off))
     ∙ sym (sum_by-IsPermutation (λ m. if comes (marked_in text d.nets m) then f (moved_pin m) else 0) old are.sorted are.moved)
     ∙ sym (map_sums moved_pin f (coming new net) ∙ filter_sums comes (λ m. f (moved_pin m)) new ∙ ap (sum_by (λ m. if comes m then f (moved_pin m) else 0)) are.marks
     ∙ map_sums (marked_in text d.nets) (λ m. if comes m then f (moved_pin m) else 0) are.sorted) in
-    sym (in_order_is pin_precedes pins_linear (map pin_of (filter wanted (map new_joint old))) (map moved_pin (coming new net)) up same)
+    sym (in_order_is pin_precedes pins_linear (map pin_joint (filter wanted (map new_joint old))) (map moved_pin (coming new net)) up same)
 
 -- ---- the pins of a statement
 
@@ -149,13 +149,13 @@ sorted_names before after names moved sorted is =
 
 -- ---- the nets that get their first statement
 
-first_are : (text : List ℕ) (d : Design) (joints : List NewJoint) (added : BTreeMap (Bor (List ℕ)) (Vec PinMove Global)) → ((net : List ℕ) → map moved_pin (pins_on added net) ≡ new_pins (names_of (design_in text d)) joints net) →
-    first_stated text added d.nets d.pins ≡ stated_first (names_of (design_in text d)) joints
+first_are : (text : List ℕ) (d : Design) (joints : List NewJoint) (added : BTreeMap (Bor (List ℕ)) (Vec PinMove Global)) → ((net : List ℕ) → map moved_pin (moves_on added net) ≡ new_pins (names_of (design_in text d)) joints net) →
+    nets_first_stated text added d.nets d.pins ≡ stated_first (names_of (design_in text d)) joints
 first_are text d joints added pins =
     let names = names_of (design_in text d) in
-    let test : (λ net. not (list_any (is_statement_of text true net) d.nets) && not (is_nil (pins_on added net))) ≡ (λ net. not (has_statement (names.special ++ names.nets) net) && not (is_nil (new_pins names joints net))) =
-    fun_ext (λ (net : List ℕ). ap (λ b. not b && not (is_nil (pins_on added net))) (sym (either_is text net d))
-    ∙ ap (λ b. not (has_statement (names.special ++ names.nets) net) && not b) (sym (nil_map moved_pin (pins_on added net)) ∙ ap is_nil (pins net))) in
+    let test : (λ net. not (list_any (is_statement_of text true net) d.nets) && not (is_nil (moves_on added net))) ≡ (λ net. not (has_statement (names.special ++ names.nets) net) && not (is_nil (new_pins names joints net))) =
+    fun_ext (λ (net : List ℕ). ap (λ b. not b && not (is_nil (moves_on added net))) (sym (either_is text net d))
+    ∙ ap (λ b. not (has_statement (names.special ++ names.nets) net) && not b) (sym (nil_map moved_pin (moves_on added net)) ∙ ap is_nil (pins net))) in
     let tops : map (λ p. p.net) names.pins ≡ map (λ p. word_bytes text p.net) d.pins = map-map (λ p. p.net) pin_names (map (pin_in text) d.pins) ∙ map-map (λ p. (pin_names p).net) (pin_in text) d.pins in
     ap (λ p. filter p (once_each (map (λ t. word_bytes text t.net) d.pins))) test
     ∙ ap (λ ns. filter (λ net. not (has_statement (names.special ++ names.nets) net) && not (is_nil (new_pins names joints net))) (once_each ns)) (sym tops)
@@ -163,20 +163,20 @@ first_are text d joints added pins =
 -- ---- all of it
 
 pub changes_are : (text : List ℕ) (d : Design) (old : List PinMove) (c : NetChanges) (nets : List (List ℕ)) (before : List (Bor (List ℕ))) → list_any (λ m. m.stands) old ≡ false → AreMarked text d.nets old c.moves.items →
-    ((net : List ℕ) → pins_on c.added net ≡ coming c.moves.items net) → ((net : List ℕ) → is_nil (pins_on c.added net) ≡ false → knows c.ordinary net ≡ list_any (is_statement_of text false net) d.nets) →
-    bytes_of before ≡ nets ++ first_stated text c.added d.nets d.pins → IsPermutation before c.fresh.items → IsSortedBy (λ x y. is_lt (slice_cmp nat_cmp x.now y.now)) c.fresh.items →
+    ((net : List ℕ) → moves_on c.added net ≡ coming c.moves.items net) → ((net : List ℕ) → is_nil (moves_on c.added net) ≡ false → knows c.ordinary net ≡ list_any (is_statement_of text false net) d.nets) →
+    bytes_of before ≡ nets ++ nets_first_stated text c.added d.nets d.pins → IsPermutation before c.fresh.items → IsSortedBy (λ x y. is_lt (slice_cmp nat_cmp x.now y.now)) c.fresh.items →
     changes_in c ≡ changes_of (names_of (design_in text d)) (map new_joint old) nets
 changes_are text d old c nets before none are on ordinary first moved sorted =
     let names = names_of (design_in text d) in
     let joints = map new_joint old in
     let stays : stays_on (map new_joint c.moves.items) ≡ stays_on joints =
     ap (λ ms. stays_on (map new_joint ms)) are.marks ∙ ap stays_on (same_joints text d.nets are.sorted) ∙ same_stays joints (map new_joint are.sorted) (IsPermutation-map new_joint old are.sorted are.moved) in
-    let pins : (net : List ℕ) → map moved_pin (pins_on c.added net) ≡ new_pins names joints net = λ net. ap (map moved_pin) (on net) ∙ new_pins_are text d old c.moves.items net none are in
+    let pins : (net : List ℕ) → map moved_pin (moves_on c.added net) ≡ new_pins names joints net = λ net. ap (map moved_pin) (on net) ∙ new_pins_are text d old c.moves.items net none are in
     let added : (λ special net. map moved_pin (pins_for c special net)) ≡ (λ special net. if special && has_statement names.nets net then [] else new_pins names joints net) =
-    fun_ext (λ (special : Bool). fun_ext (λ (net : List ℕ). chosen special (knows c.ordinary net) (has_statement names.nets net) (pins_on c.added net) (new_pins names joints net) (pins net) (λ gets. ordinary net gets ∙ sym (ordinary_is text net d)))) in
+    fun_ext (λ (special : Bool). fun_ext (λ (net : List ℕ). chosen special (knows c.ordinary net) (has_statement names.nets net) (moves_on c.added net) (new_pins names joints net) (pins net) (λ gets. ordinary net gets ∙ sym (ordinary_is text net d)))) in
     let order : in_order precedes (nets ++ stated_first names joints) ≡ bytes_of c.fresh.items = sorted_names before c.fresh.items (nets ++ stated_first names joints) moved sorted (first ∙ ap (λ ns. nets ++ ns) (first_are text d joints c.added pins)) in
     let fresh : map (fresh_of c) c.fresh.items ≡ fresh_nets names joints nets =
-    sym (map-map (λ name. let f : Fresh = record { name = name; joints = map moved_pin (pins_on c.added name) } in f) (λ (n : Bor (List ℕ)). n.now) c.fresh.items)
+    sym (map-map (λ name. let f : Fresh = record { name = name; joints = map moved_pin (moves_on c.added name) } in f) (λ (n : Bor (List ℕ)). n.now) c.fresh.items)
     ∙ ap (λ g. map g (bytes_of c.fresh.items)) (fun_ext (λ (name : List ℕ). ap (λ js. let f : Fresh = record { name = name; joints = js } in f) (pins name)))
     ∙ ap (map (λ name. let f : Fresh = record { name = name; joints = new_pins names joints name } in f)) (sym order) in
     ap (λ s. let o : Changes = record { stays = s; added = λ special net. map moved_pin (pins_for c special net); fresh = map (fresh_of c) c.fresh.items; numeral = decimal } in o) stays
@@ -194,11 +194,11 @@ unmarked_more [] m none off = ap (λ b. b || false) off
 unmarked_more (k ∷ ms) m none off = let parts = or_split k.stands (list_any (λ j. j.stands) ms) none in ap (λ b. b || list_any (λ j. j.stands) (ms ++ m ∷ [])) parts.0 ∙ unmarked_more ms m parts.1 off
 
 -- one joint more
-pub move_more : (js : List code.NewJoint) (i : ℕ) (j : code.NewJoint) (old new : List PinMove) (m : PinMove) → i < length js → j ≡ get_or js i j → new ≡ old ++ m ∷ [] → new_joint m ≡ named_joint j → m.stands ≡ false →
-    (map new_joint old ≡ map named_joint (take i js)) × (list_any (λ k. k.stands) old ≡ false) → (map new_joint new ≡ map named_joint (take (i + 1) js)) × (list_any (λ k. k.stands) new ≡ false)
+pub move_more : (js : List code.NewJoint) (i : ℕ) (j : code.NewJoint) (old new : List PinMove) (m : PinMove) → i < length js → j ≡ get_or js i j → new ≡ old ++ m ∷ [] → new_joint m ≡ joint_by_names j → m.stands ≡ false →
+    (map new_joint old ≡ map joint_by_names (take i js)) × (list_any (λ k. k.stands) old ≡ false) → (map new_joint new ≡ map joint_by_names (take (i + 1) js)) × (list_any (λ k. k.stands) new ≡ false)
 move_more js i j old new m lt at is same off before = (
-  ap (map new_joint) is ∙ map-append new_joint old (m ∷ []) ∙ ap (λ ns. ns ++ new_joint m ∷ []) before.0 ∙ ap (λ n. map named_joint (take i js) ++ n ∷ []) same
-      ∙ sym (map-append named_joint (take i js) (j ∷ [])) ∙ ap (λ k. map named_joint (take i js ++ k ∷ [])) at ∙ ap (map named_joint) (sym (take_more js i j lt)),
+  ap (map new_joint) is ∙ map-append new_joint old (m ∷ []) ∙ ap (λ ns. ns ++ new_joint m ∷ []) before.0 ∙ ap (λ n. map joint_by_names (take i js) ++ n ∷ []) same
+      ∙ sym (map-append joint_by_names (take i js) (j ∷ [])) ∙ ap (λ k. map joint_by_names (take i js ++ k ∷ [])) at ∙ ap (map joint_by_names) (sym (take_more js i j lt)),
   ap (list_any (λ k. k.stands)) is ∙ unmarked_more old m before.1 off,
 )
 

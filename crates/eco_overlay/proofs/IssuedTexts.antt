@@ -16,7 +16,7 @@ use Rattle.eco_issued_laws.specs.Changes.{NewJoint, Changes, Fresh, changes_of}
 use Rattle.eco_issued_laws.specs.Issued.{Edit, edited, InOrder, changed_text, net_edit, count_text, fresh_text, stays_whole, section_edits, special_edits, edits, nets_first, IsOverlayOf}
 use Rattle.eco_issued_laws.proofs.QuietEdits.{slice_split, empty_slice, ahead, quiet, order_earlier}
 use Rattle.eco_overlay.specs.NetChanges.{of_kind}
-use Rattle.eco_overlay.specs.Overlays.{all_changed, counted, appended, section_changed, design_changed}
+use Rattle.eco_overlay.specs.Overlays.{all_changed, count_edits, appended, section_changed, design_changed}
 
 -- ---- edits, and the same without those that change nothing
 
@@ -104,7 +104,7 @@ same_section text o lo mid hi count ss end full lean begins counts placed ends r
     some fs = one_edit text lo hi (first fs) (nets ++ (last fs ∷ full)) (changed ++ (last fs ∷ lean)) begins (omega (arith, counts))
         (same_statements text o false count.end end hi ss (last fs ∷ full) (last fs ∷ lean) placed (one_edit text end hi (last fs) full lean (omega arith) (omega arith) behind))
 
-    at : (fs : List Fresh) → SameText text lo hi ((first fs ∷ (nets ++ last fs ∷ [])) ++ full) ((counted text o (record { count = count; nets = map (net_in text) ss; end = end }) fs ++ (changed ++ appended (record { count = count; nets = map (net_in text) ss; end = end }) fs)) ++ lean)
+    at : (fs : List Fresh) → SameText text lo hi ((first fs ∷ (nets ++ last fs ∷ [])) ++ full) ((count_edits text o (record { count = count; nets = map (net_in text) ss; end = end }) fs ++ (changed ++ appended (record { count = count; nets = map (net_in text) ss; end = end }) fs)) ++ lean)
     at [] = subst (λ es. SameText text lo hi (first [] ∷ es) ((changed ++ []) ++ lean)) (sym (append_assoc nets (last [] ∷ []) full))
         (subst (λ es. SameText text lo hi (first [] ∷ (nets ++ (last [] ∷ full))) (es ++ lean)) (sym (append-nil changed)) none)
     at (f ∷ fs) = subst (λ es. SameText text lo hi (first (f ∷ fs) ∷ es) (first (f ∷ fs) ∷ ((changed ++ last (f ∷ fs) ∷ []) ++ lean))) (sym (append_assoc nets (last (f ∷ fs) ∷ []) full))

@@ -10,7 +10,7 @@ use Rattle.eco_def.specs.View.{net_in}
 use Rattle.eco_issued_laws.specs.Changes.{Changes, Fresh, is_nil}
 use Rattle.eco_issued_laws.specs.Issued.{Edit, nets_first, fresh_text}
 use Rattle.eco_overlay.specs.NetChanges.{of_kind, is_before_first}
-use Rattle.eco_overlay.specs.Overlays.{changed_edits, all_changed, counted, appended}
+use Rattle.eco_overlay.specs.Overlays.{changed_edits, all_changed, count_edits, appended}
 
 pub nil_map : {A B : Type 0} (f : A → B) (xs : List A) → is_nil (map f xs) ≡ is_nil xs
 nil_map f [] = refl
@@ -66,6 +66,6 @@ pub appended_is : (s : said.NetSection) (fs : List Fresh) (bytes : List ℕ) →
 appended_is s [] bytes off is = cc
 appended_is s (f ∷ fs) bytes off is = ap (λ bs. let e : Edit = record { start = s.end; end = s.end; bytes = bs } in e ∷ []) is
 
-pub counted_is : (text : List ℕ) (o : Changes) (s : said.NetSection) (fs : List Fresh) (bytes : List ℕ) → is_nil fs ≡ false → bytes ≡ o.numeral (length s.nets + length fs) → record { start = s.count.start; end = s.count.end; bytes = bytes } ∷ [] ≡ counted text o s fs
+pub counted_is : (text : List ℕ) (o : Changes) (s : said.NetSection) (fs : List Fresh) (bytes : List ℕ) → is_nil fs ≡ false → bytes ≡ o.numeral (length s.nets + length fs) → record { start = s.count.start; end = s.count.end; bytes = bytes } ∷ [] ≡ count_edits text o s fs
 counted_is text o s [] bytes off is = cc
 counted_is text o s (f ∷ fs) bytes off is = ap (λ bs. let e : Edit = record { start = s.count.start; end = s.count.end; bytes = bs } in e ∷ []) is

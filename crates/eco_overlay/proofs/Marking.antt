@@ -9,7 +9,7 @@ use Rattle.std.proofs.lemmas.List.Folds.{list_any-append}
 use Rattle.std.proofs.lemmas.Simd.{map-map}
 use Rattle.eco_def.specs.declared.design.Joint.{Joint}
 use Rattle.eco_def.specs.declared.design.NetStatement.{NetStatement}
-use Rattle.eco_issued_laws.specs.Changes.{is_of}
+use Rattle.eco_issued_laws.specs.Changes.{is_joint_of}
 use Rattle.eco_overlay.specs.declared.pin_move.PinMove.{PinMove}
 use Rattle.eco_text.specs.Cursor.{word_bytes}
 use Rattle.eco_overlay.specs.PinMoves.{new_joint, moved_pin, pin_cmp, names_in, marked, marked_by, marked_in, stands_in, AreInOrder}
@@ -56,8 +56,8 @@ pub one_marked_by : (text net : List ℕ) (js : List Joint) (j : Joint) (ms : Li
 one_marked_by text net js j ms =
     map-map (marked (names_in text j) net) (marked_by text net js) ms
     ∙ ap (λ f. map f ms) (fun_ext (λ (m : PinMove). ap (λ b. let n : PinMove = record m { stands = b } in n)
-    (joint_more m.stands (bytes_eq net m.net.now) (list_any (λ k. is_of (new_joint m) (names_in text k)) js) (is_of (new_joint m) (names_in text j))
-    ∙ ap (λ b. m.stands || (bytes_eq net m.net.now && b)) (sym (list_any-append (λ k. is_of (new_joint m) (names_in text k)) js (j ∷ []))))))
+    (joint_more m.stands (bytes_eq net m.net.now) (list_any (λ k. is_joint_of (new_joint m) (names_in text k)) js) (is_joint_of (new_joint m) (names_in text j))
+    ∙ ap (λ b. m.stands || (bytes_eq net m.net.now && b)) (sym (list_any-append (λ k. is_joint_of (new_joint m) (names_in text k)) js (j ∷ []))))))
 
 -- one statement more
 pub one_marked_in : (text : List ℕ) (ss : List NetStatement) (i : ℕ) (d : NetStatement) (ms : List PinMove) → i < length ss →
@@ -66,6 +66,6 @@ one_marked_in text ss i d ms lt =
     let s = get_or ss i d in
     map-map (marked_by text (word_bytes text s.name) s.joints) (marked_in text (take i ss)) ms
     ∙ ap (λ f. map f ms) (fun_ext (λ (m : PinMove). ap (λ b. let n : PinMove = record m { stands = b } in n)
-    (statement_more m.stands (stands_in text (new_joint m) (take i ss)) (bytes_eq (word_bytes text s.name) m.net.now && list_any (λ k. is_of (new_joint m) (names_in text k)) s.joints)
-    ∙ ap (λ b. m.stands || b) (sym (list_any-append (λ t. bytes_eq (word_bytes text t.name) m.net.now && list_any (λ k. is_of (new_joint m) (names_in text k)) t.joints) (take i ss) (s ∷ []))))))
+    (statement_more m.stands (stands_in text (new_joint m) (take i ss)) (bytes_eq (word_bytes text s.name) m.net.now && list_any (λ k. is_joint_of (new_joint m) (names_in text k)) s.joints)
+    ∙ ap (λ b. m.stands || b) (sym (list_any-append (λ t. bytes_eq (word_bytes text t.name) m.net.now && list_any (λ k. is_joint_of (new_joint m) (names_in text k)) t.joints) (take i ss) (s ∷ []))))))
     ∙ ap (λ ts. map (marked_in text ts) ms) (sym (take_more ss i d lt))

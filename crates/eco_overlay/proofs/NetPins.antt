@@ -17,7 +17,7 @@ use Rattle.eco_overlay.specs.declared.pin_move.PinMove.{PinMove}
 use Rattle.eco_text.specs.Cursor.{word_bytes}
 use Rattle.eco_overlay.specs.PinMoves.{tops_net}
 use Rattle.eco_issued_laws.specs.Changes.{is_nil, once_each}
-use Rattle.eco_overlay.specs.NetChanges.{coming, pins_on, is_statement_of, first_stated}
+use Rattle.eco_overlay.specs.NetChanges.{coming, moves_on, is_statement_of, nets_first_stated}
 use Rattle.std.proofs.lemmas.Slice.Eq.{bytes_eq-Decides}
 use Rattle.eco_overlay.proofs.Orders.{eq_sym}
 
@@ -42,13 +42,13 @@ true_false : {A : Type 0} → true ≡ false → A
 true_false e = cc
 
 -- a statement whose net gets no pin names no net that gets one
-pub no_statement : (added : BTreeMap (Bor (List ℕ)) (Vec PinMove Global)) (name net : List ℕ) (gate known : Bool) → (gate && not (is_nil (pins_on added name))) ≡ false → is_nil (pins_on added net) ≡ false →
+pub no_statement : (added : BTreeMap (Bor (List ℕ)) (Vec PinMove Global)) (name net : List ℕ) (gate known : Bool) → (gate && not (is_nil (moves_on added name))) ≡ false → is_nil (moves_on added net) ≡ false →
     known ≡ (known || (gate && bytes_eq name net))
 no_statement added name net false known off gets = or_none known
 no_statement added name net true known off gets = at (bytes_eq name net) refl
   where
     at : (b : Bool) → bytes_eq name net ≡ b → known ≡ (known || b)
-    at true e = let same : name ≡ net = (bytes_eq-Decides name net).0 e in let apart : true ≡ false = sym (ap not gets) ∙ sym (ap (λ n. not (is_nil (pins_on added n))) same) ∙ off in true_false apart
+    at true e = let same : name ≡ net = (bytes_eq-Decides name net).0 e in let apart : true ≡ false = sym (ap not gets) ∙ sym (ap (λ n. not (is_nil (moves_on added n))) same) ∙ off in true_false apart
     at false e = or_none known
 
 gate_on : (a b : Bool) → (a && b) ≡ true → a ≡ true
@@ -140,11 +140,11 @@ gets_is false e = refl
 
 -- the names that are known of nets that get a pin: those with a statement or a top pin
 abbrev pub KnowsFirst : List ℕ → BTreeMap (Bor (List ℕ)) (Vec PinMove Global) → List NetStatement → List TopPin → (List ℕ → Bool) → Type 0
-KnowsFirst text added ss ps known = (net : List ℕ) → is_nil (pins_on added net) ≡ false → known net ≡ (list_any (is_statement_of text true net) ss || tops_net text net ps)
+KnowsFirst text added ss ps known = (net : List ℕ) → is_nil (moves_on added net) ≡ false → known net ≡ (list_any (is_statement_of text true net) ss || tops_net text net ps)
 
 known_more : (text : List ℕ) (added : BTreeMap (Bor (List ℕ)) (Vec PinMove Global)) (ss : List NetStatement) (ps : List TopPin) (i : ℕ) (d : TopPin) (old new : List ℕ → Bool) → i < length ps →
     KnowsFirst text added ss (take i ps) old →
-    ((q : List ℕ) → new q ≡ (if (not (is_nil (pins_on added (word_bytes text (get_or ps i d).net))) && bytes_eq (word_bytes text (get_or ps i d).net) q) then true else old q)) →
+    ((q : List ℕ) → new q ≡ (if (not (is_nil (moves_on added (word_bytes text (get_or ps i d).net))) && bytes_eq (word_bytes text (get_or ps i d).net) q) then true else old q)) →
     KnowsFirst text added ss (take (i + 1) ps) new
 known_more text added ss ps i d old new lt before adds net gets =
     adds net ∙ at (bytes_eq m net) refl ∙ ap (λ b. list_any (is_statement_of text true net) ss || b) (sym (tops_more text net ps i d lt))
@@ -157,28 +157,28 @@ known_more text added ss ps i d old new lt before adds net gets =
     off false = refl
 
     at : (same : Bool) → bytes_eq (word_bytes text (get_or ps i d).net) net ≡ same →
-        (if (not (is_nil (pins_on added (word_bytes text (get_or ps i d).net))) && same) then true else old net) ≡ (list_any (is_statement_of text true net) ss || (tops_net text net (take i ps) || (same || false)))
+        (if (not (is_nil (moves_on added (word_bytes text (get_or ps i d).net))) && same) then true else old net) ≡ (list_any (is_statement_of text true net) ss || (tops_net text net (take i ps) || (same || false)))
     at true e =
-        ap (λ b. if (not b && true) then true else old net) (ap (λ n. is_nil (pins_on added n)) ((bytes_eq-Decides (word_bytes text (get_or ps i d).net) net).0 e) ∙ gets)
+        ap (λ b. if (not b && true) then true else old net) (ap (λ n. is_nil (moves_on added n)) ((bytes_eq-Decides (word_bytes text (get_or ps i d).net) net).0 e) ∙ gets)
         ∙ or_true (list_any (is_statement_of text true net) ss) (tops_net text net (take i ps))
-    at false e = off (not (is_nil (pins_on added (word_bytes text (get_or ps i d).net)))) ∙ before net gets ∙ or_off (list_any (is_statement_of text true net) ss) (tops_net text net (take i ps))
+    at false e = off (not (is_nil (moves_on added (word_bytes text (get_or ps i d).net)))) ∙ before net gets ∙ or_off (list_any (is_statement_of text true net) ss) (tops_net text net (take i ps))
 
 -- one top pin more
 pub top_more : (text : List ℕ) (added : BTreeMap (Bor (List ℕ)) (Vec PinMove Global)) (ss : List NetStatement) (ps : List TopPin) (i : ℕ) (d : TopPin) (old new : List ℕ → Bool) (base before after : List (List ℕ)) (b : Bool) → i < length ps →
-    before ≡ base ++ first_stated text added ss (take i ps) → KnowsFirst text added ss (take i ps) old →
-    b ≡ (not (is_nil (pins_on added (word_bytes text (get_or ps i d).net))) && not (old (word_bytes text (get_or ps i d).net))) →
-    ((q : List ℕ) → new q ≡ (if (not (is_nil (pins_on added (word_bytes text (get_or ps i d).net))) && bytes_eq (word_bytes text (get_or ps i d).net) q) then true else old q)) →
+    before ≡ base ++ nets_first_stated text added ss (take i ps) → KnowsFirst text added ss (take i ps) old →
+    b ≡ (not (is_nil (moves_on added (word_bytes text (get_or ps i d).net))) && not (old (word_bytes text (get_or ps i d).net))) →
+    ((q : List ℕ) → new q ≡ (if (not (is_nil (moves_on added (word_bytes text (get_or ps i d).net))) && bytes_eq (word_bytes text (get_or ps i d).net) q) then true else old q)) →
     after ≡ before ++ (if b then word_bytes text (get_or ps i d).net ∷ [] else []) →
-    (after ≡ base ++ first_stated text added ss (take (i + 1) ps)) × KnowsFirst text added ss (take (i + 1) ps) new
+    (after ≡ base ++ nets_first_stated text added ss (take (i + 1) ps)) × KnowsFirst text added ss (take (i + 1) ps) new
 top_more text added ss ps i d old new base before after b lt was known is adds now =
-    let p : List ℕ → Bool = λ net. not (list_any (is_statement_of text true net) ss) && not (is_nil (pins_on added net)) in
+    let p : List ℕ → Bool = λ net. not (list_any (is_statement_of text true net) ss) && not (is_nil (moves_on added net)) in
     let names : TopPin → List ℕ = λ t. word_bytes text t.net in
     let m = names (get_or ps i d) in
     let news : b ≡ (p m && not (is_known (map names (take i ps)) m)) =
-    is_new (not (is_nil (pins_on added m))) (old m) (list_any (is_statement_of text true m) ss) (tops_net text m (take i ps)) b is (λ g. known m (gets_is (is_nil (pins_on added m)) g))
+    is_new (not (is_nil (moves_on added m))) (old m) (list_any (is_statement_of text true m) ss) (tops_net text m (take i ps)) b is (λ g. known m (gets_is (is_nil (moves_on added m)) g))
     ∙ ap (λ t. p m && not t) (sym (tops_are text m (take i ps))) in
     let more : map names (take (i + 1) ps) ≡ map names (take i ps) ++ m ∷ [] = ap (map names) (take_more ps i d lt) ∙ map-append names (take i ps) (get_or ps i d ∷ []) in (
-      now ∙ ap (λ ts. ts ++ (if b then m ∷ [] else [])) was ∙ append_assoc base (first_stated text added ss (take i ps)) (if b then m ∷ [] else [])
+      now ∙ ap (λ ts. ts ++ (if b then m ∷ [] else [])) was ∙ append_assoc base (nets_first_stated text added ss (take i ps)) (if b then m ∷ [] else [])
           ∙ ap (λ ts. base ++ ts) (sym (first_more p (map names (take i ps)) m b news) ∙ ap (λ ns. filter p (once_each ns)) (sym more)),
       known_more text added ss ps i d old new lt known adds,
     )
@@ -186,18 +186,18 @@ top_more text added ss ps i d old new base before after b lt was known is adds n
 -- ---- one pin more for its net
 
 pins_put : (new mid : BTreeMap (Bor (List ℕ)) (Vec PinMove Global)) (net q : List ℕ) (pins : Vec PinMove Global) →
-    get_by (λ k. slice_cmp nat_cmp q k.now) new ≡ cond (bytes_eq net q) (Some pins) (get_by (λ k. slice_cmp nat_cmp q k.now) mid) → pins_on new q ≡ (if bytes_eq net q then pins.items else pins_on mid q)
+    get_by (λ k. slice_cmp nat_cmp q k.now) new ≡ cond (bytes_eq net q) (Some pins) (get_by (λ k. slice_cmp nat_cmp q k.now) mid) → moves_on new q ≡ (if bytes_eq net q then pins.items else moves_on mid q)
 pins_put new mid net q pins is = ap (λ o. option_map_or (λ ps. ps.items) o []) is ∙ at (bytes_eq net q)
   where
-    at : (b : Bool) → option_map_or (λ ps. ps.items) (cond b (Some pins) (get_by (λ k. slice_cmp nat_cmp q k.now) mid)) [] ≡ (if b then pins.items else pins_on mid q)
+    at : (b : Bool) → option_map_or (λ ps. ps.items) (cond b (Some pins) (get_by (λ k. slice_cmp nat_cmp q k.now) mid)) [] ≡ (if b then pins.items else moves_on mid q)
     at true = refl
     at false = refl
 
 pub pin_put : (old mid new : BTreeMap (Bor (List ℕ)) (Vec PinMove Global)) (net q : List ℕ) (m : PinMove) (pins : Vec PinMove Global) →
     get_by (λ k. slice_cmp nat_cmp q k.now) new ≡ cond (bytes_eq net q) (Some pins) (get_by (λ k. slice_cmp nat_cmp q k.now) mid) →
-    pins.items ≡ pins_on old net ++ m ∷ [] → (bytes_eq net q ≡ false → pins_on mid q ≡ pins_on old q) → pins_on new q ≡ pins_on old q ++ (if bytes_eq q net then m ∷ [] else [])
+    pins.items ≡ moves_on old net ++ m ∷ [] → (bytes_eq net q ≡ false → moves_on mid q ≡ moves_on old q) → moves_on new q ≡ moves_on old q ++ (if bytes_eq q net then m ∷ [] else [])
 pin_put old mid new net q m pins is taken others = pins_put new mid net q pins is ∙ at (bytes_eq net q) refl
   where
-    at : (b : Bool) → bytes_eq net q ≡ b → (if b then pins.items else pins_on mid q) ≡ pins_on old q ++ (if bytes_eq q net then m ∷ [] else [])
-    at true e = taken ∙ ap (λ n. pins_on old n ++ m ∷ []) ((bytes_eq-Decides net q).0 e) ∙ ap (λ b. pins_on old q ++ (if b then m ∷ [] else [])) (sym (eq_sym q net ∙ e))
-    at false e = others e ∙ sym (append-nil (pins_on old q)) ∙ ap (λ b. pins_on old q ++ (if b then m ∷ [] else [])) (sym (eq_sym q net ∙ e))
+    at : (b : Bool) → bytes_eq net q ≡ b → (if b then pins.items else moves_on mid q) ≡ moves_on old q ++ (if bytes_eq q net then m ∷ [] else [])
+    at true e = taken ∙ ap (λ n. moves_on old n ++ m ∷ []) ((bytes_eq-Decides net q).0 e) ∙ ap (λ b. moves_on old q ++ (if b then m ∷ [] else [])) (sym (eq_sym q net ∙ e))
+    at false e = others e ∙ sym (append-nil (moves_on old q)) ∙ ap (λ b. moves_on old q ++ (if b then m ∷ [] else [])) (sym (eq_sym q net ∙ e))

@@ -10,8 +10,8 @@ use Rattle.eco_def.specs.declared.design.Design.{Design}
 use Rattle.eco_def.specs.View.{joint_in, net_in, comp_in, pin_in, design_in}
 use Rattle.eco_def.specs.Named.{NamedDesign, NamedNet, joint_names, net_names, comp_names, pin_names, names_of}
 use Rattle.eco_overlay.specs.declared.fault.MoveFault.TheVariants.{UnknownComponent, NotOnNet, UnknownNet}
-use Rattle.eco_overlay.specs.Moving.{has_comp, has_net, move_fault}
-use Rattle.eco_issued_laws.specs.Changes.{NewJoint, is_no_component, is_of, stands, has_statement}
+use Rattle.eco_overlay.specs.Moving.{has_comp, move_fault}
+use Rattle.eco_issued_laws.specs.Changes.{NewJoint, is_no_component, is_joint_of, stands, has_statement, has_net}
 use Rattle.eco_text.specs.Cursor.{word_bytes}
 use Rattle.eco_overlay.specs.PinMoves.{stands_in, names_net, tops_net, names_comp}
 use Rattle.eco_overlay.specs.NetChanges.{is_statement_of, of_kind}
@@ -38,9 +38,9 @@ either_is text name d = both_kinds (λ s. bytes_eq s.name name) text d.nets
 
 pub stands_is : (text : List ℕ) (n : NewJoint) (d : Design) → stands ((names_of (design_in text d)).special ++ (names_of (design_in text d)).nets) n ≡ stands_in text n d.nets
 stands_is text n d =
-    both_kinds (λ s. bytes_eq s.name n.net && list_any (is_of n) s.joints) text d.nets
+    both_kinds (λ s. bytes_eq s.name n.net && list_any (is_joint_of n) s.joints) text d.nets
     ∙ ap (λ f. list_any f d.nets) (fun_ext (λ (s : NetStatement). ap (λ b. bytes_eq (word_bytes text s.name) n.net && b)
-    (list_any-map (is_of n) joint_names (map (joint_in text) s.joints) ∙ list_any-map (λ j. is_of n (joint_names j)) (joint_in text) s.joints)))
+    (list_any-map (is_joint_of n) joint_names (map (joint_in text) s.joints) ∙ list_any-map (λ j. is_joint_of n (joint_names j)) (joint_in text) s.joints)))
 
 -- ---- the statements of NETS
 

@@ -6,7 +6,7 @@ use Rattle.std.specs.Ordering.{is_eq}
 use Rattle.std.proofs.Common.{◌≡◌, ℕ, zero, suc, ◌<◌, Bool, true, false, not, ◌&&◌, ◌||◌, List, [], ◌∷◌, length, map, get_or, slice_set, Less, refl, ap, sym, ◌∙◌, subst, arith}
 use Rattle.std.proofs.lemmas.Slice.Eq.{bytes_eq-Decides}
 use Rattle.eco_def.specs.Named.{NamedJoint}
-use Rattle.eco_issued_laws.specs.Changes.{NewJoint, is_no_component, is_of, stays_on, pin_of}
+use Rattle.eco_issued_laws.specs.Changes.{NewJoint, is_no_component, is_joint_of, stays_on, pin_joint}
 use Rattle.eco_overlay.specs.declared.pin_move.PinMove.{PinMove}
 use Rattle.eco_overlay.specs.PinMoves.{new_joint, moved_pin, pin_cmp, marked, AreInOrder}
 use Rattle.eco_overlay.proofs.Orders.{eq_sym}
@@ -14,10 +14,10 @@ use Rattle.eco_overlay.proofs.Places.{before_each, is_equal}
 
 -- ---- whether a joint is of a moved pin
 
-top_off : (n : NewJoint) (j : NamedJoint) → is_no_component j.comp ≡ true → is_of n j ≡ false
+top_off : (n : NewJoint) (j : NamedJoint) → is_no_component j.comp ≡ true → is_joint_of n j ≡ false
 top_off n j top = rw top refl
 
-is_of_same : (n : NewJoint) (j : NamedJoint) → is_no_component j.comp ≡ false → pin_of n ≡ j → is_of n j ≡ true
+is_of_same : (n : NewJoint) (j : NamedJoint) → is_no_component j.comp ≡ false → pin_joint n ≡ j → is_joint_of n j ≡ true
 is_of_same n j comp same = rw (comp, (bytes_eq-Decides n.comp j.comp).1 (ap (λ k. k.comp) same), (bytes_eq-Decides n.pin j.pin).1 (ap (λ k. k.pin) same)) refl
 
 both : (a b c : Bool) → (not a && (b && c)) ≡ true → (b ≡ true) × (c ≡ true)
@@ -26,7 +26,7 @@ both false true true e = (refl, refl)
 both false true false e = cc
 both false false c e = cc
 
-of_same : (n : NewJoint) (j : NamedJoint) → is_of n j ≡ true → pin_of n ≡ j
+of_same : (n : NewJoint) (j : NamedJoint) → is_joint_of n j ≡ true → pin_joint n ≡ j
 of_same n j on =
     let e = both (is_no_component j.comp) (bytes_eq n.comp j.comp) (bytes_eq n.pin j.pin) on in
     let a = (bytes_eq-Decides n.comp j.comp).0 e.0 in
@@ -37,15 +37,15 @@ off_from : (b : Bool) → (b ≡ true → ⊥) → b ≡ false
 off_from true f = absurd (f refl)
 off_from false f = refl
 
-of_other : (n : NewJoint) (j : NamedJoint) → (pin_of n ≡ j → ⊥) → is_of n j ≡ false
-of_other n j apart = off_from (is_of n j) (λ on. apart (of_same n j on))
+of_other : (n : NewJoint) (j : NamedJoint) → (pin_joint n ≡ j → ⊥) → is_joint_of n j ≡ false
+of_other n j apart = off_from (is_joint_of n j) (λ on. apart (of_same n j on))
 
 less_apart : (j k : NamedJoint) → pin_cmp j k ≡ Less → j ≡ k → ⊥
 less_apart j k less same = let off : true ≡ false = sym (is_equal j k same) ∙ ap is_eq less in cc
 
 -- no move is of the joint's pin
 abbrev pub AllOff : NamedJoint → List PinMove → Type 0
-AllOff j ms = AllByRecursion (λ m. is_of (new_joint m) j ≡ false) ms
+AllOff j ms = AllByRecursion (λ m. is_joint_of (new_joint m) j ≡ false) ms
 
 pub off_top : (j : NamedJoint) (ms : List PinMove) → is_no_component j.comp ≡ true → AllOff j ms
 off_top j [] top = tt
@@ -59,7 +59,7 @@ off_behind : (j : NamedJoint) (ms : List PinMove) → AllByRecursion (λ k. pin_
 off_behind j [] all = tt
 off_behind j (m ∷ ms) all = (of_other (new_joint m) j (λ e. less_apart j (moved_pin m) all.0 (sym e)), off_behind j ms all.1)
 
-head_off : (j : NamedJoint) (m : PinMove) (ms : List PinMove) → AllByRecursion (λ k. pin_cmp (moved_pin m) k ≡ Less) (map moved_pin ms) → (i : ℕ) (d : PinMove) → i < length ms → moved_pin (get_or ms i d) ≡ j → is_of (new_joint m) j ≡ false
+head_off : (j : NamedJoint) (m : PinMove) (ms : List PinMove) → AllByRecursion (λ k. pin_cmp (moved_pin m) k ≡ Less) (map moved_pin ms) → (i : ℕ) (d : PinMove) → i < length ms → moved_pin (get_or ms i d) ≡ j → is_joint_of (new_joint m) j ≡ false
 head_off j m ms all i d lt same = of_other (new_joint m) j (λ e. less_apart (moved_pin m) (moved_pin (get_or ms i d)) (before_each (moved_pin m) ms all i d lt) (e ∙ sym same))
 
 -- ---- whether it stays
@@ -95,10 +95,10 @@ or_on : (a : Bool) → (a || true) ≡ true
 or_on true = refl
 or_on false = refl
 
-mark_off : (j : NamedJoint) (net : List ℕ) (m : PinMove) → is_of (new_joint m) j ≡ false → marked j net m ≡ m
+mark_off : (j : NamedJoint) (net : List ℕ) (m : PinMove) → is_joint_of (new_joint m) j ≡ false → marked j net m ≡ m
 mark_off j net m off = ap (λ b. let n : PinMove = record m { stands = b } in n) (ap (λ b. m.stands || (bytes_eq net m.net.now && b)) off ∙ or_off m.stands (bytes_eq net m.net.now))
 
-mark_on : (j : NamedJoint) (net : List ℕ) (m : PinMove) → is_of (new_joint m) j ≡ true → bytes_eq m.net.now net ≡ true → marked j net m ≡ record m { stands = true }
+mark_on : (j : NamedJoint) (net : List ℕ) (m : PinMove) → is_joint_of (new_joint m) j ≡ true → bytes_eq m.net.now net ≡ true → marked j net m ≡ record m { stands = true }
 mark_on j net m on at = ap (λ b. let n : PinMove = record m { stands = b } in n)
     (ap (λ b. m.stands || (bytes_eq net m.net.now && b)) on ∙ ap (λ b. m.stands || (b && true)) (eq_sym net m.net.now ∙ at) ∙ or_on m.stands)
 
@@ -118,7 +118,7 @@ marks_at j net (m ∷ ms) up comp (suc i) d lt same at =
 
 -- the pin stands on another net
 mark_elsewhere : (j : NamedJoint) (net : List ℕ) (m : PinMove) → bytes_eq m.net.now net ≡ false → marked j net m ≡ m
-mark_elsewhere j net m off = ap (λ b. let n : PinMove = record m { stands = b } in n) (ap (λ b. m.stands || (b && is_of (new_joint m) j)) (eq_sym net m.net.now ∙ off) ∙ or_none m.stands)
+mark_elsewhere j net m off = ap (λ b. let n : PinMove = record m { stands = b } in n) (ap (λ b. m.stands || (b && is_joint_of (new_joint m) j)) (eq_sym net m.net.now ∙ off) ∙ or_none m.stands)
   where
     or_none : (a : Bool) → (a || false) ≡ a
     or_none true = refl

@@ -4,7 +4,7 @@ use Rattle.std.specs.List.{list_any}
 use Rattle.std.specs.Str.{bytes_eq}
 use Rattle.eco_def.specs.Design.{Design}
 use Rattle.eco_def.specs.Named.{NamedDesign, names_of}
-use Rattle.eco_issued_laws.specs.Changes.{is_no_component, stands, has_statement}
+use Rattle.eco_issued_laws.specs.Changes.{is_no_component, statements, stands, has_net}
 use Rattle.eco_issued_laws.specs.Issued.{Edit, IsOverlayOf}
 use Rattle.eco_overlay.specs.declared.fault.MoveFault.{MoveFault}
 use Rattle.eco_overlay.specs.declared.fault.MoveFault.TheVariants.{Memory, UnknownComponent, NotOnNet, UnknownNet}
@@ -13,15 +13,11 @@ use Rattle.eco_overlay.specs.declared.fault.MoveFault.TheVariants.{Memory, Unkno
 abbrev pub has_comp : NamedDesign → List ℕ → Bool
 has_comp d name = not (is_no_component name) && list_any (λ c. bytes_eq c.name name) d.comps
 
--- a net is in a design where it has a statement or a top pin names it
-abbrev pub has_net : NamedDesign → List ℕ → Bool
-has_net d name = has_statement (d.special ++ d.nets) name || list_any (λ p. bytes_eq p.net name) d.pins
-
 -- why a pin can't be moved: the first reason there is
 abbrev pub move_fault : NamedDesign → List ℕ → List ℕ → List ℕ → List ℕ → Option MoveFault
 move_fault d comp pin from to =
     if not (has_comp d comp) then Some UnknownComponent
-    else if not (stands (d.special ++ d.nets) (record { comp = comp; pin = pin; net = from })) then Some NotOnNet
+    else if not (stands (statements d) (record { comp = comp; pin = pin; net = from })) then Some NotOnNet
     else if not (has_net d to) then Some UnknownNet
     else None
 

@@ -3,7 +3,7 @@ use Rattle.std.specs.Prelude.{ℕ, Bool, true, not, ◌&&◌, ◌||◌, List, []
 use Rattle.std.specs.Global.{Global}
 use Rattle.std.specs.Ordering.{nat_cmp}
 use Rattle.std.specs.Option.{option_map_or}
-use Rattle.std.specs.List.{filter, list_all, list_any}
+use Rattle.std.specs.List.{filter, list_any}
 use Rattle.std.specs.Borrow.{Bor}
 use Rattle.std.specs.BTreeMap.{BTreeMap, get_by}
 use Rattle.std.specs.Cmp.Lexicographic.{slice_cmp}
@@ -13,7 +13,6 @@ use Rattle.eco_def.specs.declared.design.NetStatement.{NetStatement}
 use Rattle.eco_def.specs.declared.design.TopPin.{TopPin}
 use Rattle.eco_def.specs.declared.design.Design.{Design}
 use Rattle.eco_def.specs.Design as said
-use Rattle.eco_def.specs.Named.{joint_names}
 use Rattle.eco_common.specs.KnownNames.{knows}
 use Rattle.eco_issued_laws.specs.Changes.{Fresh, Changes, is_nil, stays_on, once_each}
 use Rattle.eco_overlay.specs.declared.pin_move.PinMove.{PinMove}
@@ -26,8 +25,8 @@ abbrev pub coming : List PinMove → List ℕ → List PinMove
 coming moves net = filter (λ m. bytes_eq net m.net.now && not m.stands) moves
 
 -- the moves that are kept for a net
-abbrev pub pins_on : BTreeMap (Bor (List ℕ)) (Vec PinMove Global) → List ℕ → List PinMove
-pins_on added net = option_map_or (λ pins. pins.items) (get_by (λ k. slice_cmp nat_cmp net k.now) added) []
+abbrev pub moves_on : BTreeMap (Bor (List ℕ)) (Vec PinMove Global) → List ℕ → List PinMove
+moves_on added net = option_map_or (λ pins. pins.items) (get_by (λ k. slice_cmp nat_cmp net k.now) added) []
 
 -- a statement of the net, in NETS or in either section
 abbrev pub is_statement_of : List ℕ → Bool → List ℕ → NetStatement → Bool
@@ -35,10 +34,10 @@ is_statement_of text either net s = (either || not s.special) && bytes_eq (word_
 
 -- the pins that come to a net's statement in SPECIALNETS or in NETS
 abbrev pub pins_for : NetChanges → Bool → List ℕ → List PinMove
-pins_for c special net = if special && knows c.ordinary net then [] else pins_on c.added net
+pins_for c special net = if special && knows c.ordinary net then [] else moves_on c.added net
 
 abbrev pub fresh_of : NetChanges → Bor (List ℕ) → Fresh
-fresh_of c name = record { name = name.now; joints = map moved_pin (pins_on c.added name.now) }
+fresh_of c name = record { name = name.now; joints = map moved_pin (moves_on c.added name.now) }
 
 abbrev pub changes_in : NetChanges → Changes
 changes_in c = record {
@@ -47,10 +46,6 @@ changes_in c = record {
   fresh = map (fresh_of c) c.fresh.items;
   numeral = decimal;
 }
-
--- nothing changes in a statement
-abbrev pub is_whole : Changes → Bool → said.Net → Bool
-is_whole o special s = list_all (λ j. o.stays s.name.bytes (joint_names j)) s.joints && is_nil (o.added special s.name.bytes)
 
 -- the statements of SPECIALNETS, or those of NETS
 abbrev pub of_kind : Bool → List NetStatement → List NetStatement
@@ -66,5 +61,5 @@ abbrev pub AreCountable : Design → Type 0
 AreCountable d = length (of_kind false d.nets) ≤ MAX_NETS
 
 -- the nets of these pins that get a pin and have no statement, each once
-abbrev pub first_stated : List ℕ → BTreeMap (Bor (List ℕ)) (Vec PinMove Global) → List NetStatement → List TopPin → List (List ℕ)
-first_stated text added ss ps = filter (λ net. not (list_any (is_statement_of text true net) ss) && not (is_nil (pins_on added net))) (once_each (map (λ p. word_bytes text p.net) ps))
+abbrev pub nets_first_stated : List ℕ → BTreeMap (Bor (List ℕ)) (Vec PinMove Global) → List NetStatement → List TopPin → List (List ℕ)
+nets_first_stated text added ss ps = filter (λ net. not (list_any (is_statement_of text true net) ss) && not (is_nil (moves_on added net))) (once_each (map (λ p. word_bytes text p.net) ps))

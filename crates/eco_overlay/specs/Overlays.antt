@@ -27,9 +27,9 @@ abbrev pub all_changed : List ℕ → Changes → Bool → List said.Net → Lis
 all_changed text o special ss = flat_map (changed_edits text o special) ss
 
 -- the edit of the count word, where there are new statements
-abbrev pub counted : List ℕ → Changes → said.NetSection → List Fresh → List Edit
-counted text o s [] = []
-counted text o s (f ∷ fs) = record { start = s.count.start; end = s.count.end; bytes = count_text text o s (f ∷ fs) } ∷ []
+abbrev pub count_edits : List ℕ → Changes → said.NetSection → List Fresh → List Edit
+count_edits text o s [] = []
+count_edits text o s (f ∷ fs) = record { start = s.count.start; end = s.count.end; bytes = count_text text o s (f ∷ fs) } ∷ []
 
 -- the edit before the END of NETS, where there are new statements
 abbrev pub appended : said.NetSection → List Fresh → List Edit
@@ -38,7 +38,7 @@ appended s (f ∷ fs) = record { start = s.end; end = s.end; bytes = flat_map fr
 
 -- the edits of NETS, without what stays
 abbrev pub section_changed : List ℕ → Changes → said.NetSection → List Edit
-section_changed text o s = counted text o s o.fresh ++ (all_changed text o false s.nets ++ appended s o.fresh)
+section_changed text o s = count_edits text o s o.fresh ++ (all_changed text o false s.nets ++ appended s o.fresh)
 
 -- the edits of a design, without what stays
 abbrev pub design_changed : List ℕ → Changes → said.Design → List Edit

@@ -14,19 +14,19 @@ use Rattle.eco_def.specs.Named.{NamedJoint, joint_names}
 use Rattle.eco_def.specs.View.{joint_in}
 use Rattle.eco_overlay.specs.declared.pin_move.PinMove.{PinMove}
 use Rattle.eco_overlay.specs.declared.new_joint.NewJoint as code
-use Rattle.eco_issued_laws.specs.Changes.{NewJoint, is_of, pin_of}
+use Rattle.eco_issued_laws.specs.Changes.{NewJoint, is_joint_of, pin_joint}
 use Rattle.eco_text.specs.Cursor.{word_bytes}
 
 -- the joint, by its names
-abbrev pub named_joint : code.NewJoint → NewJoint
-named_joint n = record { comp = n.comp; pin = n.pin; net = n.net }
+abbrev pub joint_by_names : code.NewJoint → NewJoint
+joint_by_names n = record { comp = n.comp; pin = n.pin; net = n.net }
 
 abbrev pub new_joint : PinMove → NewJoint
 new_joint m = record { comp = m.comp.now; pin = m.pin.now; net = m.net.now }
 
 -- the pin that is moved
 abbrev pub moved_pin : PinMove → NamedJoint
-moved_pin m = pin_of (new_joint m)
+moved_pin m = pin_joint (new_joint m)
 
 -- the joints are of one pin
 abbrev pub same_pin : NewJoint → NewJoint → Bool
@@ -64,15 +64,15 @@ last_end at (j ∷ js) = last_end j.end js
 
 -- the move after a joint of a net's statement was seen
 abbrev pub marked : NamedJoint → List ℕ → PinMove → PinMove
-marked j net m = record m { stands = m.stands || (bytes_eq net m.net.now && is_of (new_joint m) j) }
+marked j net m = record m { stands = m.stands || (bytes_eq net m.net.now && is_joint_of (new_joint m) j) }
 
 -- the move after these joints of a net's statement were seen
 abbrev pub marked_by : List ℕ → List ℕ → List Joint → PinMove → PinMove
-marked_by text net js m = record m { stands = m.stands || (bytes_eq net m.net.now && list_any (λ j. is_of (new_joint m) (names_in text j)) js) }
+marked_by text net js m = record m { stands = m.stands || (bytes_eq net m.net.now && list_any (λ j. is_joint_of (new_joint m) (names_in text j)) js) }
 
 -- some statement of the pin's net has its joint
 abbrev pub stands_in : List ℕ → NewJoint → List NetStatement → Bool
-stands_in text n ss = list_any (λ s. bytes_eq (word_bytes text s.name) n.net && list_any (λ j. is_of n (names_in text j)) s.joints) ss
+stands_in text n ss = list_any (λ s. bytes_eq (word_bytes text s.name) n.net && list_any (λ j. is_joint_of n (names_in text j)) s.joints) ss
 
 -- the move after these statements were seen
 abbrev pub marked_in : List ℕ → List NetStatement → PinMove → PinMove

@@ -6,7 +6,7 @@ ghost use Rattle.std.specs.List.{list_any};
 ghost use Rattle.eco_common.specs.KnownNames.{knows};
 ghost use Rattle.eco_issued_laws.specs.Changes.{is_nil};
 ghost use Rattle.eco_text.specs.Cursor.{word_bytes};
-ghost use Rattle.eco_overlay.specs.NetChanges.{coming, pins_on, pins_for, is_statement_of, first_stated};
+ghost use Rattle.eco_overlay.specs.NetChanges.{coming, moves_on, pins_for, is_statement_of, nets_first_stated};
 
 use crate::net_changes::{Added, NetChanges};
 use crate::pin_move::PinMove;
@@ -18,8 +18,8 @@ use std::collections::{BTreeMap, HashMap};
 
 /// Takes the pins of a net away.
 fn take_pins<'a>(added: &mut Added<'a>, alloc: Global, net: &'a [u8]) -> Vec<PinMove<'a>>
-    ensures pins { result.items ≡ pins_on added.old net.now }
-    ensures others { (q : List ℕ) → bytes_eq net.now q ≡ false → pins_on added.new q ≡ pins_on added.old q }
+    ensures pins { result.items ≡ moves_on added.old net.now }
+    ensures others { (q : List ℕ) → bytes_eq net.now q ≡ false → moves_on added.new q ≡ moves_on added.old q }
 {
     match added.remove(net) {
         Some(pins) => pins,
@@ -29,7 +29,7 @@ fn take_pins<'a>(added: &mut Added<'a>, alloc: Global, net: &'a [u8]) -> Vec<Pin
 
 /// Adds a pin to those of its net.
 fn add_pin<'a>(added: &mut Added<'a>, alloc: Global, moved: PinMove<'a>) -> Result<(), AllocError>
-    ensures { OnOk result ((net : List ℕ) → pins_on added.new net ≡ pins_on added.old net ++ (if bytes_eq net moved.entry.net.now then moved.entry ∷ [] else [])) }
+    ensures { OnOk result ((net : List ℕ) → moves_on added.new net ≡ moves_on added.old net ++ (if bytes_eq net moved.entry.net.now then moved.entry ∷ [] else [])) }
 {
     let mut pins = take_pins(added, alloc, moved.net);
     pins.push(moved)?;
@@ -43,7 +43,7 @@ fn add_coming<'a>(
     alloc: Global,
     moved: PinMove<'a>,
 ) -> Result<(), AllocError>
-    ensures { OnOk result ((net : List ℕ) → pins_on added.new net ≡ pins_on added.old net ++ coming (moved.entry ∷ []) net) }
+    ensures { OnOk result ((net : List ℕ) → moves_on added.new net ≡ moves_on added.old net ++ coming (moved.entry ∷ []) net) }
 {
     if moved.stands {
         return Ok(());
@@ -53,7 +53,7 @@ fn add_coming<'a>(
 
 /// The pins that come to each net.
 pub fn coming_pins<'a>(alloc: Global, moves: &[PinMove<'a>]) -> Result<Added<'a>, AllocError>
-    ensures { IfOk result (λ added. (net : List ℕ) → pins_on added net ≡ coming moves.now net) }
+    ensures { IfOk result (λ added. (net : List ℕ) → moves_on added net ≡ coming moves.now net) }
 {
     let mut added: Added<'a> = BTreeMap::new(alloc);
     for moved in moves {
@@ -64,7 +64,7 @@ pub fn coming_pins<'a>(alloc: Global, moves: &[PinMove<'a>]) -> Result<Added<'a>
 
 /// Whether a pin comes to a net.
 fn gets_pins(added: &Added<'_>, net: &[u8]) -> bool
-    ensures { result ≡ not (is_nil (pins_on added.now net.now)) }
+    ensures { result ≡ not (is_nil (moves_on added.now net.now)) }
 {
     match added.get(net) {
         Some(pins) => !pins.is_empty(),
@@ -74,7 +74,7 @@ fn gets_pins(added: &Added<'_>, net: &[u8]) -> bool
 
 /// Whether the statement is in NETS, or in either section, and its net gets a pin.
 fn gets_pin(text: &[u8], net: &NetStatement, added: &Added<'_>, either: bool) -> bool
-    ensures { result ≡ ((either || not net.now.special) && not (is_nil (pins_on added.now (word_bytes text.now net.now.name)))) }
+    ensures { result ≡ ((either || not net.now.special) && not (is_nil (moves_on added.now (word_bytes text.now net.now.name)))) }
 {
     (either || !net.special) && gets_pins(added, bytes_at(text, net.name))
 }
@@ -87,7 +87,7 @@ fn add_stated<'a>(
     added: &Added<'_>,
     either: bool,
 ) -> Result<(), AllocError>
-    ensures { OnOk result ((q : List ℕ) → is_nil (pins_on added.now q) ≡ false → knows names.new q ≡ (knows names.old q || is_statement_of text.now either q net.now)) }
+    ensures { OnOk result ((q : List ℕ) → is_nil (moves_on added.now q) ≡ false → knows names.new q ≡ (knows names.old q || is_statement_of text.now either q net.now)) }
 {
     if !gets_pin(text, net, added, either) {
         return Ok(());
@@ -104,7 +104,7 @@ pub fn stated_nets<'a>(
     added: &Added<'_>,
     either: bool,
 ) -> Result<Names<'a>, AllocError>
-    ensures { IfOk result (λ names. (net : List ℕ) → is_nil (pins_on added.now net) ≡ false → knows names net ≡ list_any (is_statement_of text.now either net) nets.now) }
+    ensures { IfOk result (λ names. (net : List ℕ) → is_nil (moves_on added.now net) ≡ false → knows names net ≡ list_any (is_statement_of text.now either net) nets.now) }
 {
     let mut names = HashMap::new(alloc);
     for net in nets {
@@ -115,8 +115,8 @@ pub fn stated_nets<'a>(
 
 /// Whether a net gets a pin and isn't among the names, to which it is added.
 fn is_first<'a>(names: &mut Names<'a>, added: &Added<'_>, net: &'a [u8]) -> Result<bool, AllocError>
-    ensures first { IfOk result (λ b. b ≡ (not (is_nil (pins_on added.now net.now)) && not (knows names.old net.now))) }
-    ensures names { OnOk result ((q : List ℕ) → knows names.new q ≡ (if (not (is_nil (pins_on added.now net.now)) && bytes_eq net.now q) then true else knows names.old q)) }
+    ensures first { IfOk result (λ b. b ≡ (not (is_nil (moves_on added.now net.now)) && not (knows names.old net.now))) }
+    ensures names { OnOk result ((q : List ℕ) → knows names.new q ≡ (if (not (is_nil (moves_on added.now net.now)) && bytes_eq net.now q) then true else knows names.old q)) }
 {
     if !gets_pins(added, net) {
         return Ok(false);
@@ -133,7 +133,7 @@ pub fn add_first_stated<'a>(
     pins: &[TopPin],
     added: &Added<'_>,
 ) -> Result<(), AllocError>
-    ensures { OnOk result (map (λ n. n.now) fresh.new.items ≡ map (λ n. n.now) fresh.old.items ++ first_stated text.now added.now nets.now pins.now) }
+    ensures { OnOk result (map (λ n. n.now) fresh.new.items ≡ map (λ n. n.now) fresh.old.items ++ nets_first_stated text.now added.now nets.now pins.now) }
 {
     let mut stated = stated_nets(alloc, text, nets, added, true)?;
     for pin in pins {

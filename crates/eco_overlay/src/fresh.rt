@@ -1,11 +1,11 @@
 //! New statements of NETS, and their number.
 
-ghost use Rattle.std.specs.Prelude.{◌≡◌, ◌+◌, ◌++◌, [], map, not, length, OnOk, IfOk};
+ghost use Rattle.std.specs.Prelude.{◌≡◌, ◌+◌, ◌++◌, [], ℕ, List, map, not, length, OnOk, IfOk};
 ghost use Rattle.std.specs.List.{filter, flat_map};
 ghost use Rattle.eco_def.specs.View.{design_in};
 ghost use Rattle.eco_issued_laws.specs.Issued.{fresh_text};
 ghost use Rattle.eco_overlay.specs.NetChanges.{fresh_of, changes_in, AreCountable};
-ghost use Rattle.eco_overlay.specs.Overlays.{counted, appended};
+ghost use Rattle.eco_overlay.specs.Overlays.{count_edits, appended};
 
 use crate::net_changes::NetChanges;
 use crate::overlay::Overlay;
@@ -24,14 +24,12 @@ fn ordinary_count(nets: &[NetStatement]) -> usize
 pub fn add_count(
     overlay: &mut Overlay,
     alloc: Global,
-    text: &[u8],
     design: &Design,
     changes: &NetChanges<'_>,
 ) -> Result<(), AllocError>
     requires { AreCountable design.now }
-    ensures { OnOk result (overlay.new ≡ overlay.old ++ counted text.now (changes_in changes.now) (design_in text.now design.now).nets (changes_in changes.now).fresh) }
+    ensures { OnOk result ((text : List ℕ) → overlay.new ≡ overlay.old ++ count_edits text (changes_in changes.now) (design_in text design.now).nets (changes_in changes.now).fresh) }
 {
-    let _ = text;
     if changes.fresh.is_empty() {
         return Ok(());
     }
@@ -63,13 +61,11 @@ fn fresh_statements(
 pub fn add_fresh(
     overlay: &mut Overlay,
     alloc: Global,
-    text: &[u8],
     design: &Design,
     changes: &NetChanges<'_>,
 ) -> Result<(), AllocError>
-    ensures { OnOk result (overlay.new ≡ overlay.old ++ appended (design_in text.now design.now).nets (changes_in changes.now).fresh) }
+    ensures { OnOk result ((text : List ℕ) → overlay.new ≡ overlay.old ++ appended (design_in text design.now).nets (changes_in changes.now).fresh) }
 {
-    let _ = text;
     if changes.fresh.is_empty() {
         return Ok(());
     }

@@ -1,14 +1,14 @@
 //! The edits of a text whose nets have other joints.
 
-ghost use Rattle.std.specs.Prelude.{◌≡◌, ◌++◌, [], ◌∷◌, map, OnOk, IfOk, true, false, if◌then◌else◌};
+ghost use Rattle.std.specs.Prelude.{◌≡◌, ◌++◌, [], ◌∷◌, ℕ, List, map, OnOk, IfOk, true, false, if◌then◌else◌};
 ghost use Rattle.std.specs.List.{filter, list_any};
 ghost use Rattle.eco_def.specs.View.{net_in, design_in};
 ghost use Rattle.eco_def.specs.Named.{names_of};
 ghost use Rattle.eco_def.specs.Sections.{IsReadingOf};
 ghost use Rattle.eco_issued_laws.specs.Changes.{changes_of};
-ghost use Rattle.eco_issued_laws.specs.Issued.{IsOverlayOf, nets_first};
+ghost use Rattle.eco_issued_laws.specs.Issued.{IsOverlayOf, nets_first, stays_whole};
 ghost use Rattle.eco_overlay.specs.PinMoves.{new_joint, AreInOrder, ArePinsApart, AreMarked};
-ghost use Rattle.eco_overlay.specs.NetChanges.{changes_in, is_whole, of_kind, is_before_first, AreCountable};
+ghost use Rattle.eco_overlay.specs.NetChanges.{changes_in, of_kind, is_before_first, AreCountable};
 ghost use Rattle.eco_overlay.specs.Overlays.{changed_edits, all_changed, section_changed, design_changed};
 
 use crate::coming::{add_first_stated, coming_pins, stated_nets, statement_gets_pins};
@@ -75,7 +75,7 @@ fn changes_of_moves<'a>(
 /// Whether nothing changes in a statement.
 fn stays_whole(text: &[u8], net: &NetStatement, changes: &NetChanges<'_>) -> bool
     requires { AreInOrder changes.now.moves.items }
-    ensures { result ≡ is_whole (changes_in changes.now) net.now.special (net_in text.now net.now) }
+    ensures { result ≡ stays_whole (changes_in changes.now) net.now.special (net_in text.now net.now) }
 {
     let name = bytes_at(text, net.name);
     !statement_gets_pins(changes, net.special, name)
@@ -149,16 +149,15 @@ fn add_section(
     requires few { AreCountable design.now }
     ensures { OnOk result (overlay.new ≡ overlay.old ++ section_changed text.now (changes_in changes.now) (design_in text.now design.now).nets) }
 {
-    add_count(overlay, alloc, text, design, changes)?;
+    add_count(overlay, alloc, design, changes)?;
     add_statements(overlay, alloc, text, design.nets.as_slice(), changes, false)?;
-    add_fresh(overlay, alloc, text, design, changes)
+    add_fresh(overlay, alloc, design, changes)
 }
 
 /// Whether a place stands before the first statement of SPECIALNETS.
-fn is_before_special(text: &[u8], nets: &[NetStatement], place: u32) -> bool
-    ensures { result ≡ is_before_first place (map (net_in text.now) (of_kind true nets.now)) }
+fn is_before_special(nets: &[NetStatement], place: u32) -> bool
+    ensures { (text : List ℕ) → result ≡ is_before_first place (map (net_in text) (of_kind true nets.now)) }
 {
-    let _ = text;
     for net in nets {
         if net.special {
             return place < net.start;
@@ -168,10 +167,10 @@ fn is_before_special(text: &[u8], nets: &[NetStatement], place: u32) -> bool
 }
 
 /// Whether NETS stands before SPECIALNETS.
-fn is_nets_first(text: &[u8], design: &Design) -> bool
-    ensures { result ≡ nets_first (design_in text.now design.now).special (design_in text.now design.now).nets }
+fn is_nets_first(design: &Design) -> bool
+    ensures { (text : List ℕ) → result ≡ nets_first (design_in text design.now).special (design_in text design.now).nets }
 {
-    is_before_special(text, design.nets.as_slice(), design.net_count.start)
+    is_before_special(design.nets.as_slice(), design.net_count.start)
 }
 
 /// The edits of the statements that change, in the order of the text.
@@ -187,7 +186,7 @@ fn overlay_of_changes(
 {
     let nets = design.nets.as_slice();
     let mut overlay = Overlay::new(alloc);
-    if is_nets_first(text, design) {
+    if is_nets_first(design) {
         add_section(&mut overlay, alloc, text, design, changes)?;
         add_statements(&mut overlay, alloc, text, nets, changes, true)?;
         return Ok(overlay);

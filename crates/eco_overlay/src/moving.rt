@@ -5,7 +5,7 @@ ghost use Rattle.std.specs.Str.{bytes_eq};
 ghost use Rattle.std.specs.List.{list_any};
 ghost use Rattle.eco_def.specs.View.{design_in};
 ghost use Rattle.eco_def.specs.Sections.{IsReadingOf};
-ghost use Rattle.eco_issued_laws.specs.Changes.{is_no_component as no_component, is_of as of_pin};
+ghost use Rattle.eco_issued_laws.specs.Changes.{is_no_component as no_component, is_joint_of as of_pin};
 ghost use Rattle.eco_issued_laws.specs.Issued.{IsOverlayOf};
 ghost use Rattle.eco_overlay.specs.Overlays.{IsMadeFor};
 ghost use Rattle.eco_overlay.specs.Moving.{Moves};

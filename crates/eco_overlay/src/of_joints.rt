@@ -5,7 +5,7 @@ ghost use Rattle.std.specs.List.{list_any};
 ghost use Rattle.eco_def.specs.View.{design_in};
 ghost use Rattle.eco_def.specs.Sections.{IsReadingOf};
 ghost use Rattle.eco_issued_laws.specs.Issued.{IsOverlayOf};
-ghost use Rattle.eco_overlay.specs.PinMoves.{new_joint, named_joint, ArePinsApart};
+ghost use Rattle.eco_overlay.specs.PinMoves.{new_joint, joint_by_names, ArePinsApart};
 ghost use Rattle.eco_overlay.specs.Overlays.{IsMadeFor};
 
 use crate::issuing::overlay_of;
@@ -18,7 +18,7 @@ use std::alloc::{AllocError, Global};
 
 /// The joint as a move that isn't marked.
 fn move_of(joint: &NewJoint) -> PinMove<'_>
-    ensures named { new_joint result ≡ named_joint joint.now }
+    ensures named { new_joint result ≡ joint_by_names joint.now }
     ensures unmarked { result.stands ≡ false }
 {
     PinMove {
@@ -31,7 +31,7 @@ fn move_of(joint: &NewJoint) -> PinMove<'_>
 
 /// The joints as moves, none of them marked.
 fn moves_of(alloc: Global, joints: &[NewJoint]) -> Result<Vec<PinMove<'_>>, AllocError>
-    ensures moves { IfOk result (λ moves. map new_joint moves.items ≡ map named_joint joints.now) }
+    ensures moves { IfOk result (λ moves. map new_joint moves.items ≡ map joint_by_names joints.now) }
     ensures unmarked { IfOk result (λ moves. list_any (λ m. m.stands) moves.items ≡ false) }
 {
     let mut moves = Vec::new(alloc);
@@ -65,8 +65,8 @@ impl Overlay {
         nets: &[Name],
     ) -> Result<Overlay, Memory>
         requires reading { IsReadingOf text.now design.now }
-        requires apart { ArePinsApart (map named_joint joints.now) }
-        ensures issued { IfOk result (IsOverlayOf text.now (design_in text.now design.now) (map named_joint joints.now) nets.now) }
+        requires apart { ArePinsApart (map joint_by_names joints.now) }
+        ensures issued { IfOk result (IsOverlayOf text.now (design_in text.now design.now) (map joint_by_names joints.now) nets.now) }
         ensures made { IfOk result (IsMadeFor text.now design.now) }
     {
         let moves = moves_of(alloc, joints)?;

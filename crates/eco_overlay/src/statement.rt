@@ -7,7 +7,7 @@ ghost use Rattle.eco_issued_laws.specs.Printing.{spaced};
 ghost use Rattle.eco_issued_laws.specs.Changes.{stays_on};
 ghost use Rattle.eco_issued_laws.specs.Issued.{kept_text, joint_words, tail_text, changed_text, fresh_text};
 ghost use Rattle.eco_overlay.specs.PinMoves.{new_joint, moved_pin, last_end, AreInOrder};
-ghost use Rattle.eco_overlay.specs.NetChanges.{pins_on, pins_for, changes_in};
+ghost use Rattle.eco_overlay.specs.NetChanges.{moves_on, pins_for, changes_in};
 
 use crate::bytes::put;
 use crate::coming::goes_to_ordinary;
@@ -71,7 +71,7 @@ fn put_pins(bytes: &mut Vec<u8>, pins: &[PinMove<'_>]) -> Result<(), AllocError>
 
 /// Appends the pins that come to a net.
 fn put_coming(bytes: &mut Vec<u8>, added: &Added<'_>, net: &[u8]) -> Result<(), AllocError>
-    ensures { OnOk result (bytes.new.items ≡ bytes.old.items ++ flat_map (λ m. spaced (joint_words (moved_pin m))) (pins_on added.now net.now)) }
+    ensures { OnOk result (bytes.new.items ≡ bytes.old.items ++ flat_map (λ m. spaced (joint_words (moved_pin m))) (moves_on added.now net.now)) }
 {
     match added.get(net) {
         Some(pins) => put_pins(bytes, pins),
@@ -138,7 +138,7 @@ pub fn put_statement(
 
 /// Appends the first statement of a net, and a line feed.
 pub fn put_fresh(bytes: &mut Vec<u8>, name: &[u8], added: &Added<'_>) -> Result<(), AllocError>
-    ensures { OnOk result (bytes.new.items ≡ bytes.old.items ++ fresh_text (record { name = name.now; joints = map moved_pin (pins_on added.now name.now) })) }
+    ensures { OnOk result (bytes.new.items ≡ bytes.old.items ++ fresh_text (record { name = name.now; joints = map moved_pin (moves_on added.now name.now) })) }
 {
     put(bytes, &[b"- ", name])?;
     put_coming(bytes, added, name)?;

@@ -14,13 +14,12 @@ use eco_def::Design;
 use eco_text::Sink;
 
 /// How many bytes the issued text has. The overlay was made for the text and its design.
-pub fn emit_len(text: &[u8], design: &Design, overlay: &Overlay) -> u64
-    requires reading { IsReadingOf text.now design.now }
-    requires made { IsMadeFor text.now design.now overlay.now }
+pub fn emit_len(text: &[u8], _design: &Design, overlay: &Overlay) -> u64
+    requires reading { IsReadingOf text.now _design.now }
+    requires made { IsMadeFor text.now _design.now overlay.now }
     ensures edited { result ≡ length (edited text.now 0 overlay.now) }
-    ensures issued { (joints : List NewJoint) (nets : List (List ℕ)) → IsOverlayOf text.now (design_in text.now design.now) joints nets overlay.now → result ≡ length (issued_text text.now (design_in text.now design.now) joints nets) }
+    ensures issued { (joints : List NewJoint) (nets : List (List ℕ)) → IsOverlayOf text.now (design_in text.now _design.now) joints nets overlay.now → result ≡ length (issued_text text.now (design_in text.now _design.now) joints nets) }
 {
-    let _ = design;
     overlay.edited_len(text)
 }
 
@@ -28,15 +27,14 @@ pub fn emit_len(text: &[u8], design: &Design, overlay: &Overlay) -> u64
 /// its design.
 pub fn emit<K: Sink>(
     text: &[u8],
-    design: &Design,
+    _design: &Design,
     overlay: &Overlay,
     sink: &mut K,
 ) -> Result<(), Failed>
-    requires reading { IsReadingOf text.now design.now }
-    requires made { IsMadeFor text.now design.now overlay.now }
+    requires reading { IsReadingOf text.now _design.now }
+    requires made { IsMadeFor text.now _design.now overlay.now }
     ensures edited { Writes K.taken K.faults sink.old sink.new result (edited text.now 0 overlay.now) }
-    ensures issued { (joints : List NewJoint) (nets : List (List ℕ)) → IsOverlayOf text.now (design_in text.now design.now) joints nets overlay.now → Writes K.taken K.faults sink.old sink.new result (issued_text text.now (design_in text.now design.now) joints nets) }
+    ensures issued { (joints : List NewJoint) (nets : List (List ℕ)) → IsOverlayOf text.now (design_in text.now _design.now) joints nets overlay.now → Writes K.taken K.faults sink.old sink.new result (issued_text text.now (design_in text.now _design.now) joints nets) }
 {
-    let _ = design;
     overlay.write_edited(text, sink)
 }

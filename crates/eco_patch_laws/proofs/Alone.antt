@@ -5,7 +5,7 @@ use Rattle.std.specs.Option.{option_map}
 use Rattle.std.specs.FinMap.{get}
 use Rattle.eco_common.specs.declared.geometry.Point.{Point}
 use Rattle.eco_common.specs.declared.geometry.Dir.TheVariants.{Input, Output, Inout}
-use Rattle.eco_net.specs.Netlist.{Name, Netlist, Component, Top, Role, Reads, Computes, Outside, role_of, IsNet, IsPin, Pin, TopPin, CompPin}
+use Rattle.eco_net.specs.Netlist.{Name, Netlist, Component, Top, Role, GateInput, GateOutput, BoxedPin, role_of, IsNet, IsPin, Pin, TopPin, CompPin}
 use Rattle.eco_net.specs.Drivers.{dir_of_role, driven, driven_at, net_of, driven_top, drives_inward, is_driving, joined_at}
 use Rattle.eco_net.proofs.Basics.{Has, same_Some, not_None, has_from_contains, contains_from_has}
 use Rattle.eco_patch_laws.specs.Orders.{PatchGate, Move, Order, Placement}
@@ -38,11 +38,11 @@ inout_input e = cc
 
 input_idle : (o : Option Role) → option_map dir_of_role o ≡ Some Input → is_driving o ≡ false
 input_idle None e = refl
-input_idle (Some Reads) e = refl
-input_idle (Some (Computes t)) e = absurd (output_input e)
-input_idle (Some (Outside Input)) e = refl
-input_idle (Some (Outside Output)) e = absurd (output_input e)
-input_idle (Some (Outside Inout)) e = absurd (inout_input e)
+input_idle (Some GateInput) e = refl
+input_idle (Some (GateOutput t)) e = absurd (output_input e)
+input_idle (Some (BoxedPin Input)) e = refl
+input_idle (Some (BoxedPin Output)) e = absurd (output_input e)
+input_idle (Some (BoxedPin Inout)) e = absurd (inout_input e)
 
 input_pin : (x : Component) (p : Name) (o : Option Role) → role_of x p ≡ o → option_map dir_of_role o ≡ Some Input → IsPin x p
 input_pin x p None f e = absurd (not_None (sym e))

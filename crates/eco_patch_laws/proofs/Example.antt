@@ -8,7 +8,7 @@ use Rattle.std.specs.FinMap.{get, find, get-from_entries}
 use Rattle.std.specs.FinSet.{contains-from_list}
 use Rattle.std.specs.Cmp.Lexicographic.{nat_list_cmp_total}
 use Rattle.eco_common.specs.declared.geometry.Point.{Point}
-use Rattle.eco_net.specs.Netlist.{Name, name_cmp, Netlist, Component, Gate, Pin, CompPin, Role, Computes, Reads, IsWhole, IsNet, IsPin, role_of}
+use Rattle.eco_net.specs.Netlist.{Name, name_cmp, Netlist, Component, Gate, Pin, CompPin, Role, GateOutput, GateInput, IsWellFormed, IsNet, IsPin, role_of}
 use Rattle.eco_net.specs.Drivers.{driven, net_of, IsDriver, Computed, IsComputed, IsFree, is_driving, joined_at}
 use Rattle.eco_net.specs.CutKeys.{CutBits}
 use Rattle.eco_net.specs.Valuation.{Valuation, IsValuation, table_value}
@@ -221,26 +221,26 @@ each_fits = (
   ),
 )
 
-whole : IsWhole (made lists)
+whole : IsWellFormed (made lists)
 whole = whole_by lists each_fits refl refl
 
 abbrev after_b : List (Name × Role)
-after_b = (codes "Y", Computes nand_table) ∷ []
+after_b = (codes "Y", GateOutput nand_table) ∷ []
 
 abbrev after_a : List (Name × Role)
-after_a = (codes "B", Reads) ∷ after_b
+after_a = (codes "B", GateInput) ∷ after_b
 
 -- the spare's output is unconnected
-spare_off : (p : Name) (t : List Bool) → role_of (component spare) p ≡ Some (Computes t) → get (component spare).joined p ≡ None
+spare_off : (p : Name) (t : List Bool) → role_of (component spare) p ≡ Some (GateOutput t) → get (component spare).joined p ≡ None
 spare_off p t r = joined_made spare p ∙ ⊎_elim
-    (λ s. absurd (reads_not (find_first (codes "A", Reads) after_a p s r)))
+    (λ s. absurd (reads_not (find_first (codes "A", GateInput) after_a p s r)))
     (λ n. ⊎_elim
-    (λ s. absurd (reads_not (find_first (codes "B", Reads) after_b p s (find_rest (codes "A", Reads) after_a p n r))))
+    (λ s. absurd (reads_not (find_first (codes "B", GateInput) after_b p s (find_rest (codes "A", GateInput) after_a p n r))))
     (λ m. sym (find_rest (codes "A", codes "VSS") ((codes "B", codes "VSS") ∷ []) p n refl) ∙ sym (find_rest (codes "B", codes "VSS") [] p m refl))
     (same_name p (codes "B")))
     (same_name p (codes "A"))
   where
-    reads_not : Some Reads ≡ Some (Computes t) → ⊥
+    reads_not : Some GateInput ≡ Some (GateOutput t) → ⊥
     reads_not e = cc
 
 is_tie : (n : Name) → Has lists.ties n → IsTie (made lists) n
@@ -360,7 +360,7 @@ unfolding IsDistinct
 keeps_rules = record {
   once = record { nets = (tt, tt); gates = (tt, tt); moves = (tt, tt) };
   nets_known = known;
-  pins_known = λ m c. (component inverter, ap (λ z. get (bare base).comps z.comp) (sym (its_move m c)) ∙ u2_is, subst (λ z. IsPin (component inverter) z.pin) (its_move m c) (Reads, refl));
+  pins_known = λ m c. (component inverter, ap (λ z. get (bare base).comps z.comp) (sym (its_move m c)) ∙ u2_is, subst (λ z. IsPin (component inverter) z.pin) (its_move m c) (GateInput, refl));
   true_moves = λ m c. subst (λ z. net_of (bare base) (CompPin z.comp z.pin) ≡ z.from) (its_move m c) (ap (λ o. joined_at o (codes "A")) u2_is ∙ joined_made inverter (codes "A"));
   no_supply = λ n r. (
     λ b e. not_None (sym e ∙ ap (get (bare base).nets) (sym (redriven n r)) ∙ m1_new),

@@ -6,7 +6,7 @@ use Rattle.std.specs.List.{IsDistinct, zip, cons_option}
 use Rattle.std.specs.FinMap.{FinMap, get, insert}
 use Rattle.std.proofs.lemmas.Bool.{ltb-true}
 use Rattle.eco_common.specs.declared.geometry.Dir.{Dir}
-use Rattle.eco_net.specs.Netlist.{Name, name_cmp, Component, Computes, Outside, role_of, input_names, inputs_of}
+use Rattle.eco_net.specs.Netlist.{Name, name_cmp, Component, GateOutput, BoxedPin, role_of, input_names, input_nets}
 use Rattle.eco_net.specs.Drivers.{is_driving, driven_at}
 use Rattle.eco_net.specs.Valuation.{Valuation, table_value, read}
 use Rattle.eco_net.proofs.Basics.{Has, same_Some, not_None, same_name, get_same, get_other, map_agree, contains_from_has}
@@ -25,15 +25,15 @@ use Rattle.eco_patch_laws.proofs.Sim.{Serves, Idle}
 
 -- ---- a spare is a gate
 
-pub spare_no_outside : (x : Component) → IsSpare x → (p : Name) (d : Dir) → role_of x p ≡ Some (Outside d) → ⊥
+pub spare_no_outside : (x : Component) → IsSpare x → (p : Name) (d : Dir) → role_of x p ≡ Some (BoxedPin d) → ⊥
 spare_no_outside x s p d e = gate_no_outside s.inputs s.outputs p d (ap (λ k. role_of (record x { kind = k }) p) (sym s.gate) ∙ e)
 
-spare_computes : (x : Component) → IsSpare x → (p : Name) → is_driving (role_of x p) ≡ true → (t : List Bool) × (role_of x p ≡ Some (Computes t))
+spare_computes : (x : Component) → IsSpare x → (p : Name) → is_driving (role_of x p) ≡ true → (t : List Bool) × (role_of x p ≡ Some (GateOutput t))
 spare_computes x s p d =
     let r = driving_computes s.inputs s.outputs p (ap (λ k. is_driving (role_of (record x { kind = k }) p)) (sym s.gate) ∙ d) in
     (r.0, ap (λ k. role_of (record x { kind = k }) p) s.gate ∙ r.1)
 
-pub spare_output : (x : Component) → IsSpare x → (p : Name) (t : List Bool) → role_of x p ≡ Some (Computes t) → Has (input_names x.kind) p → ⊥
+pub spare_output : (x : Component) → IsSpare x → (p : Name) (t : List Bool) → role_of x p ≡ Some (GateOutput t) → Has (input_names x.kind) p → ⊥
 spare_output x s p t e h = output_no_input s.inputs s.outputs p t (ap (λ k. role_of (record x { kind = k }) p) (sym s.gate) ∙ e) (subst (λ k. Has (input_names k) p) s.gate h)
 
 pub spare_idle : (x : Component) → IsSpare x → Idle x
@@ -150,7 +150,7 @@ module _ (low high : Name) (g : PatchGate) (p : Placement) (x : Component) (s : 
   serving_out = driven_joined serving p.output g.output (ap is_driving m.is_output) (ap (λ z. get z p.output) serving_joined ∙ get_same (rejoined its_feeds p.spare x.joined) p.output g.output)
 
   -- an output that is not chosen stays off
-  others_off : (q : Name) (t : List Bool) → role_of x q ≡ Some (Computes t) → q ≢ p.output → get serving.joined q ≡ None
+  others_off : (q : Name) (t : List Bool) → role_of x q ≡ Some (GateOutput t) → q ≢ p.output → get serving.joined q ≡ None
   others_off q t r n =
       ap (λ z. get z q) serving_joined
       ∙ get_other (rejoined its_feeds p.spare x.joined) p.output g.output q n
@@ -177,14 +177,14 @@ module _ (low high : Name) (g : PatchGate) (p : Placement) (x : Component) (s : 
     no_outside = λ q d e. spare_no_outside x s q d e;
   }
 
-  pub serving_reads : inputs_of serving ≡ map (feed_net low high g.inputs) p.feeds
+  pub serving_reads : input_nets serving ≡ map (feed_net low high g.inputs) p.feeds
   serving_reads =
       map_agree _ _ (input_names x.kind) (λ q h.
       ap (λ z. get z q) serving_joined
       ∙ get_other (rejoined its_feeds p.spare x.joined) p.output g.output q (λ e. spare_output x s p.output m.chosen m.is_output (subst (Has (input_names x.kind)) e h)))
       ∙ fed_inputs low high g p.spare (input_names x.kind) p.feeds x.joined names m.one_each (λ f h. fed_net low high g.inputs f (m.among f (contains_from_has p.feeds f h)))
 
-  pub serving_serves : (ins : List (Option Name)) → ins ≡ map Some g.inputs → Serves low high g.table ins m.chosen (inputs_of serving)
+  pub serving_serves : (ins : List (Option Name)) → ins ≡ map Some g.inputs → Serves low high g.table ins m.chosen (input_nets serving)
   serving_serves ins a = record {
     looks = λ v l h.
         ap (λ z. table_value m.chosen (map (read v) z)) serving_reads

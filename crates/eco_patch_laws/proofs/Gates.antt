@@ -6,62 +6,62 @@ use Rattle.std.specs.List.{enumerate_from, IsDistinct, AllByRecursion}
 use Rattle.std.specs.FinMap.{get, find, get-from_entries}
 use Rattle.eco_common.specs.declared.geometry.Dir.{Dir}
 use Rattle.eco_common.specs.declared.geometry.Point.{Point}
-use Rattle.eco_net.specs.Netlist.{Name, name_cmp, Component, Kind, Gate, Boxed, Role, Reads, Computes, Outside, pins_of, role_of, input_names, inputs_of}
+use Rattle.eco_net.specs.Netlist.{Name, name_cmp, Component, Kind, Gate, Boxed, Role, GateInput, GateOutput, BoxedPin, pins_of, role_of, input_names, input_nets}
 use Rattle.eco_net.specs.Drivers.{is_driving, driven_at}
 use Rattle.eco_net.proofs.Basics.{Has, same_Some, not_None, same_name, same_head, find_first, find_rest, map_agree}
 use Rattle.eco_patch_laws.specs.Orders.{PatchGate}
 use Rattle.eco_patch_laws.specs.Insertion.{input_pin, output_pin, input_pins, patch_component}
 use Rattle.eco_patch_laws.proofs.Names.{same_tail}
 
-not_reads : {t : List Bool} → Some Reads ≡ Some (Computes t) → ⊥
+not_reads : {t : List Bool} → Some GateInput ≡ Some (GateOutput t) → ⊥
 not_reads e = cc
 
-not_out : {d : Dir} → Some Reads ≡ Some (Outside d) → ⊥
+not_out : {d : Dir} → Some GateInput ≡ Some (BoxedPin d) → ⊥
 not_out e = cc
 
-computes_out : {t : List Bool} {d : Dir} → Some (Computes t) ≡ Some (Outside d) → ⊥
+computes_out : {t : List Bool} {d : Dir} → Some (GateOutput t) ≡ Some (BoxedPin d) → ⊥
 computes_out e = cc
 
 -- ---- a gate's pins
 
 abbrev reading : List Name → List (Name × Role)
-reading ins = map (λ p. (p, Reads)) ins
+reading ins = map (λ p. (p, GateInput)) ins
 
 abbrev computing : List (Name × List Bool) → List (Name × Role)
-computing outs = map (λ o. (o.0, Computes o.1)) outs
+computing outs = map (λ o. (o.0, GateOutput o.1)) outs
 
 -- a gate has no pin of a box
-pub gate_no_outside : (ins : List Name) (outs : List (Name × List Bool)) (p : Name) (d : Dir) → find name_cmp p (reading ins ++ computing outs) ≡ Some (Outside d) → ⊥
+pub gate_no_outside : (ins : List Name) (outs : List (Name × List Bool)) (p : Name) (d : Dir) → find name_cmp p (reading ins ++ computing outs) ≡ Some (BoxedPin d) → ⊥
 gate_no_outside [] [] p d e = not_None (sym e)
 gate_no_outside [] (o ∷ outs) p d e =
     ⊎_elim
-    (λ s. computes_out (find_first (o.0, Computes o.1) (computing outs) p s e))
-    (λ n. gate_no_outside [] outs p d (find_rest (o.0, Computes o.1) (computing outs) p n e))
+    (λ s. computes_out (find_first (o.0, GateOutput o.1) (computing outs) p s e))
+    (λ n. gate_no_outside [] outs p d (find_rest (o.0, GateOutput o.1) (computing outs) p n e))
     (same_name p o.0)
 gate_no_outside (i ∷ ins) outs p d e =
     ⊎_elim
-    (λ s. not_out (find_first (i, Reads) (reading ins ++ computing outs) p s e))
-    (λ n. gate_no_outside ins outs p d (find_rest (i, Reads) (reading ins ++ computing outs) p n e))
+    (λ s. not_out (find_first (i, GateInput) (reading ins ++ computing outs) p s e))
+    (λ n. gate_no_outside ins outs p d (find_rest (i, GateInput) (reading ins ++ computing outs) p n e))
     (same_name p i)
 
 -- an output is no input
-pub output_no_input : (ins : List Name) (outs : List (Name × List Bool)) (p : Name) (t : List Bool) → find name_cmp p (reading ins ++ computing outs) ≡ Some (Computes t) → Has ins p → ⊥
+pub output_no_input : (ins : List Name) (outs : List (Name × List Bool)) (p : Name) (t : List Bool) → find name_cmp p (reading ins ++ computing outs) ≡ Some (GateOutput t) → Has ins p → ⊥
 output_no_input [] outs p t e h = h
 output_no_input (i ∷ ins) outs p t e h =
     ⊎_elim
-    (λ s. not_reads (find_first (i, Reads) (reading ins ++ computing outs) p s e))
-    (λ n. output_no_input ins outs p t (find_rest (i, Reads) (reading ins ++ computing outs) p n e) (⊎_elim (λ s. absurd (n (sym s))) (λ j. j) h))
+    (λ s. not_reads (find_first (i, GateInput) (reading ins ++ computing outs) p s e))
+    (λ n. output_no_input ins outs p t (find_rest (i, GateInput) (reading ins ++ computing outs) p n e) (⊎_elim (λ s. absurd (n (sym s))) (λ j. j) h))
     (same_name p i)
 
 -- a driving pin of a gate is an output
-pub driving_computes : (ins : List Name) (outs : List (Name × List Bool)) (p : Name) → is_driving (find name_cmp p (reading ins ++ computing outs)) ≡ true → (t : List Bool) × (find name_cmp p (reading ins ++ computing outs) ≡ Some (Computes t))
+pub driving_computes : (ins : List Name) (outs : List (Name × List Bool)) (p : Name) → is_driving (find name_cmp p (reading ins ++ computing outs)) ≡ true → (t : List Bool) × (find name_cmp p (reading ins ++ computing outs) ≡ Some (GateOutput t))
 driving_computes ins outs p d = go (find name_cmp p (reading ins ++ computing outs)) refl d
   where
-    go : (o : Option Role) → find name_cmp p (reading ins ++ computing outs) ≡ o → is_driving o ≡ true → (t : List Bool) × (find name_cmp p (reading ins ++ computing outs) ≡ Some (Computes t))
+    go : (o : Option Role) → find name_cmp p (reading ins ++ computing outs) ≡ o → is_driving o ≡ true → (t : List Bool) × (find name_cmp p (reading ins ++ computing outs) ≡ Some (GateOutput t))
     go None e d = absurd (true≢false (sym d))
-    go (Some Reads) e d = absurd (true≢false (sym d))
-    go (Some (Computes t)) e d = (t, e)
-    go (Some (Outside q)) e d = absurd (gate_no_outside ins outs p q e)
+    go (Some GateInput) e d = absurd (true≢false (sym d))
+    go (Some (GateOutput t)) e d = (t, e)
+    go (Some (BoxedPin q)) e d = absurd (gate_no_outside ins outs p q e)
 
 all_inputs : (P : Name → Type 0) (ins : List Name) (rest : List (Name × Role)) → AllByRecursion P (map (λ e. e.0) (reading ins ++ rest)) → AllByRecursion P ins
 all_inputs P [] rest a = tt
@@ -94,8 +94,8 @@ driven_joined x p n d e = ap (λ b. cond b (get x.joined p) None) d ∙ e
 pub record Drives (x : Component) (pin out : Name) (table : List Bool) : Type 0 where
   pub drives : driven_at (Some x) pin ≡ Some out
   pub only : (p n : Name) → driven_at (Some x) p ≡ Some n → (p ≡ pin) × (n ≡ out)
-  pub at : role_of x pin ≡ Some (Computes table)
-  pub no_outside : (p : Name) (d : Dir) → role_of x p ≡ Some (Outside d) → ⊥
+  pub at : role_of x pin ≡ Some (GateOutput table)
+  pub no_outside : (p : Name) (d : Dir) → role_of x p ≡ Some (BoxedPin d) → ⊥
 
 -- ---- a patch gate's pins
 
@@ -125,7 +125,7 @@ find_output : (k : ℕ) (inputs : List Name) (n : Name) → find name_cmp output
 find_output k [] n = refl
 find_output k (m ∷ inputs) n = find_output (k + 1) inputs n
 
-role_of_output : (k : ℕ) (inputs : List Name) (t : List Bool) → find name_cmp output_pin (reading (names_from k inputs) ++ computing ((output_pin, t) ∷ [])) ≡ Some (Computes t)
+role_of_output : (k : ℕ) (inputs : List Name) (t : List Bool) → find name_cmp output_pin (reading (names_from k inputs) ++ computing ((output_pin, t) ∷ [])) ≡ Some (GateOutput t)
 role_of_output k [] t = refl
 role_of_output k (m ∷ inputs) t = role_of_output (k + 1) inputs t
 
@@ -133,13 +133,13 @@ only_output : (k : ℕ) (inputs : List Name) (t : List Bool) (p : Name) → is_d
 only_output k [] t p d =
     ⊎_elim
     (λ s. s)
-    (λ n. absurd (true≢false (sym d ∙ ap is_driving (sym (find_rest (output_pin, Computes t) [] p n refl)))))
+    (λ n. absurd (true≢false (sym d ∙ ap is_driving (sym (find_rest (output_pin, GateOutput t) [] p n refl)))))
     (same_name p output_pin)
 only_output k (m ∷ inputs) t p d =
     let rest = reading (names_from (k + 1) inputs) ++ computing ((output_pin, t) ∷ []) in
     ⊎_elim
-    (λ s. absurd (true≢false (sym d ∙ ap is_driving (sym (find_first (input_pin k, Reads) rest p s refl)))))
-    (λ n. only_output (k + 1) inputs t p (ap is_driving (find_rest (input_pin k, Reads) rest p n refl) ∙ d))
+    (λ s. absurd (true≢false (sym d ∙ ap is_driving (sym (find_first (input_pin k, GateInput) rest p s refl)))))
+    (λ n. only_output (k + 1) inputs t p (ap is_driving (find_rest (input_pin k, GateInput) rest p n refl) ∙ d))
     (same_name p (input_pin k))
 
 module _ (g : PatchGate) (place : Option Point) where
@@ -159,5 +159,5 @@ module _ (g : PatchGate) (place : Option Point) where
     no_outside = λ p d e. gate_no_outside (map (λ e. e.0) (input_pins g.inputs)) ((output_pin, g.table) ∷ []) p d e;
   }
 
-  pub patch_reads : inputs_of (patch_component g place) ≡ map Some g.inputs
+  pub patch_reads : input_nets (patch_component g place) ≡ map Some g.inputs
   patch_reads = map_agree _ _ (map (λ e. e.0) (input_pins g.inputs)) (λ p h. patch_joined p) ∙ find_inputs 0 g.inputs ((output_pin, g.output) ∷ [])

@@ -2,7 +2,7 @@
 use Rattle.std.proofs.Common.{◌≡◌, ◌≢◌, Bool, true, List, [], ◌∷◌, map, Option, Some, None, refl, sym, ap, ◌∙◌, subst, inl, inr, ⊎_elim, ◌⊎◌}
 use Rattle.std.specs.FinMap.{FinMap, get, insert}
 use Rattle.eco_common.specs.declared.geometry.Point.{Point}
-use Rattle.eco_net.specs.Netlist.{Name, name_cmp, Netlist, Component, role_of, Pin, TopPin, CompPin, input_names, inputs_of}
+use Rattle.eco_net.specs.Netlist.{Name, name_cmp, Netlist, Component, role_of, Pin, TopPin, CompPin, input_names, input_nets}
 use Rattle.eco_net.specs.Drivers.{is_driving, driven, driven_at, IsDriver}
 use Rattle.eco_net.proofs.Basics.{Has, same_Some, not_None, same_name, get_same, get_other, has_of_map, contains_from_has}
 use Rattle.eco_patch_laws.specs.Orders.{PatchGate, Move, Order}
@@ -153,7 +153,7 @@ module _ (label : Name) (place : Name → Option Point) (bare N P : Netlist) (or
   pub net_stays : (n : Name) (s : Option Bool) → get N.nets n ≡ Some s → get (inserted label place N order).nets n ≡ Some s
   net_stays n s e = nets_other N.nets order.nets n (λ h. not_None (sym e ∙ keeps.new_nets n h)) ∙ e
 
-  no_inputs_stay : (c : Name) (x y : Component) → MovedFrom order.moves c x y → inputs_of x ≡ [] → inputs_of y ≡ []
+  no_inputs_stay : (c : Name) (x y : Component) → MovedFrom order.moves c x y → input_nets x ≡ [] → input_nets y ≡ []
   no_inputs_stay c x y m e = ap (λ ns. map (get y.joined) ns) (ap input_names m.kind ∙ no_map (get x.joined) (input_names x.kind) e)
 
   pub constant_stays : (n : Name) (b : Bool) → (IsRedriven N order n → ⊥) → IsConstant N n b → IsConstant (inserted label place N order) n b

@@ -5,7 +5,7 @@ use Rattle.eco_net.specs.Netlist.{Name, Netlist, Pin, TopPin, CompPin}
 use Rattle.eco_net.specs.Drivers.{driven, driven_at, driven_top, IsDriver, Computed, IsFree}
 use Rattle.eco_net.specs.CutKeys.{CutBits, CutKey, PinKey, NetKey, KeyOf, is_source_pin, is_source_at, is_source_top}
 use Rattle.eco_net.specs.Valuation.{Valuation, IsValuation}
-use Rattle.eco_net.specs.Walks.{ReadsNet, Walk, IsLoopFree}
+use Rattle.eco_net.specs.Walks.{ReadsNet, NetWalk, IsLoopFree}
 use Rattle.eco_net.specs.Bases.{IsWithout}
 use Rattle.eco_patch_laws.proofs.Sim.{found_driver}
 
@@ -46,7 +46,7 @@ module _ (M N : Netlist) (without : IsWithout M N) where
   reads_in_M : (a b : Name) → ReadsNet N a b → ReadsNet M a b
   reads_in_M a b r = record { from = (r.from.0, r.from.1, computed_in_M a r.from.0 r.from.1 r.from.2); table = r.table; inputs = r.inputs; to = computed_in_M b r.table r.inputs r.to; reads = r.reads }
 
-  walk_in_M : (a b : Name) (k : ℕ) → Walk N a b k → Walk M a b k
+  walk_in_M : (a b : Name) (k : ℕ) → NetWalk N a b k → NetWalk M a b k
   walk_in_M a b zero w = w
   walk_in_M a b (suc k) w = (w.0, walk_in_M a w.0 k w.1, reads_in_M w.0 b w.2)
 
@@ -70,7 +70,7 @@ module _ (M N : Netlist) (without : IsWithout M N) where
   reads_in_N : (a b : Name) → ReadsNet M a b → ReadsNet N a b
   reads_in_N a b r = record { from = (r.from.0, r.from.1, computed_in_N a r.from.0 r.from.1 r.from.2); table = r.table; inputs = r.inputs; to = computed_in_N b r.table r.inputs r.to; reads = r.reads }
 
-  walk_in_N : (a b : Name) (k : ℕ) → Walk M a b k → Walk N a b k
+  walk_in_N : (a b : Name) (k : ℕ) → NetWalk M a b k → NetWalk N a b k
   walk_in_N a b zero w = w
   walk_in_N a b (suc k) w = (w.0, walk_in_N a w.0 k w.1, reads_in_N w.0 b w.2)
 

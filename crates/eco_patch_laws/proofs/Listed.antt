@@ -8,7 +8,7 @@ use Rattle.std.specs.FinMap.{get, insert, from_entries, find, get-from_entries, 
 use Rattle.std.proofs.lemmas.Map.Lookups.{exact_bytes}
 use Rattle.eco_net.specs.Netlist.{Name, name_cmp, Netlist, Component, Gate, Role, pins_of, role_of}
 use Rattle.eco_net.specs.Drivers.{is_driving, driven_at, Computed, IsComputed}
-use Rattle.eco_net.specs.Walks.{ReadsNet, Walk, IsLoopFree}
+use Rattle.eco_net.specs.Walks.{ReadsNet, NetWalk, IsLoopFree}
 use Rattle.eco_net.proofs.Solved.{one_table}
 use Rattle.eco_net.proofs.Basics.{Has, has_from_contains, same_Some, not_None, same_name, same_of_cmp, cmp_itself, find_first, find_rest}
 use Rattle.eco_net.proofs.Lists.{Part, Lists, component, components, made, comp_made, joined_made, EachReads, reads_by}
@@ -166,7 +166,7 @@ not_computed_by L n e c =
 
 -- ---- no closed walk where what is computed and read is driven by gates that read nothing computed
 
-first_step : (N : Netlist) (a b : Name) (k : ℕ) → Walk N a b (suc k) → (c : Name) × ReadsNet N a c
+first_step : (N : Netlist) (a b : Name) (k : ℕ) → NetWalk N a b (suc k) → (c : Name) × ReadsNet N a c
 first_step N a b zero w = (b, subst (λ z. ReadsNet N z b) (sym w.1) w.2)
 first_step N a b (suc k) w = first_step N a w.0 k w.1
 

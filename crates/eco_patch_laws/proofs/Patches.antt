@@ -1,7 +1,7 @@
 -- One order on the base
 use Rattle.std.proofs.Common.{◌≡◌, Bool, List, [], map, Option, Some, ◌↔◌}
 use Rattle.eco_common.specs.declared.geometry.Point.{Point}
-use Rattle.eco_net.specs.Netlist.{Name, Component, Computes, role_of}
+use Rattle.eco_net.specs.Netlist.{Name, Component, GateOutput, role_of}
 use Rattle.eco_net.specs.Drivers.{Computed}
 use Rattle.std.specs.List.{Contains, zip}
 use Rattle.std.specs.FinMap.{get}
@@ -45,7 +45,7 @@ module _ (base : Base) (label : Name) (place : Name → Option Point) (order : O
       (mapped_from base [] order placements p.mapped (λ s h k. k))
       g (has_from_contains order.gates g c)
 
-  pub spares_compute : (g : PatchGate) (q : Placement) (x : Component) → Contains (zip order.gates placements) (g, q) → get base.full.comps q.spare ≡ Some x → (chosen : List Bool) × (role_of x q.output ≡ Some (Computes chosen)) × Computed (realised base.low base.high base.full order placements) g.output chosen (map (feed_net base.low base.high g.inputs) q.feeds)
+  pub spares_compute : (g : PatchGate) (q : Placement) (x : Component) → Contains (zip order.gates placements) (g, q) → get base.full.comps q.spare ≡ Some x → (chosen : List Bool) × (role_of x q.output ≡ Some (GateOutput chosen)) × Computed (realised base.low base.high base.full order placements) g.output chosen (map (feed_net base.low base.high g.inputs) q.feeds)
   spares_compute g q x c f =
       spare_computes base p.base_is (bare base) base.full [] [] [] (start base p.base_is) label place order placements
       (keeps_from (bare base) (bare base) (inserted label place (bare base) order) order p.keeps)

@@ -9,7 +9,7 @@ use Rattle.eco_net.specs.Drivers.{net_of, joined_at}
 use Rattle.eco_net.proofs.Basics.{Has, same_Some, same_name, cmp_itself, get_same, get_other, contains_from_has, has_from_contains}
 use Rattle.eco_patch_laws.specs.Orders.{PatchGate, Placement}
 use Rattle.eco_common.specs.Joints.{NewJoint}
-use Rattle.eco_net.specs.Joints.{put_on, put_joints, with_nets, with_joints, frame, same_pin, Takes}
+use Rattle.eco_net.specs.Joints.{put_on, put_joints, with_nets, with_joints, frame, same_pin, CanTake}
 use Rattle.eco_patch_laws.specs.Insertion.{move_joint}
 use Rattle.eco_patch_laws.specs.Realisation.{spare_joints, all_spare_joints, patch_joints, realised}
 use Rattle.eco_net.specs.Bases.{Base}
@@ -41,7 +41,7 @@ its_net (k ∷ js) m j d (inr h) =
     (λ n. ap (λ r. get r j.pin) (rejoined_there k js j.comp m n) ∙ its_net js m j d.1 h)
     (same_name j.comp k.comp)
 
-pub joints_join : (N : Netlist) (joints : List NewJoint) (nets : List Name) → Takes N nets joints → (j : NewJoint) → Contains joints j → net_of (with_joints N joints nets) (CompPin j.comp j.pin) ≡ Some j.net
+pub joints_join : (N : Netlist) (joints : List NewJoint) (nets : List Name) → CanTake N nets joints → (j : NewJoint) → Contains joints j → net_of (with_joints N joints nets) (CompPin j.comp j.pin) ≡ Some j.net
 joints_join N joints nets t j c =
     let x = t.pins j c in
     ap (λ o. joined_at o j.pin) (joined_some N.comps joints j.comp x.0 x.1) ∙ its_net joints x.0.joined j t.once (has_from_contains joints j c)

@@ -3,12 +3,12 @@ use Rattle.std.proofs.Common.{◌≡◌, ◌≢◌, ℕ, zero, suc, Bool, true, 
 use Rattle.std.specs.FinMap.{get, contains_key}
 use Rattle.eco_common.specs.declared.geometry.Dir.{Dir}
 use Rattle.eco_common.specs.declared.geometry.Dir.TheVariants.{Input, Output, Inout}
-use Rattle.eco_net.specs.Netlist.{Name, Netlist, Component, Role, Reads, Computes, Outside, role_of, inputs_of, Pin, TopPin, CompPin}
+use Rattle.eco_net.specs.Netlist.{Name, Netlist, Component, Role, GateInput, GateOutput, BoxedPin, role_of, input_nets, Pin, TopPin, CompPin}
 use Rattle.eco_net.specs.Drivers.{is_driving, driven, driven_at, driven_top, IsDriver, Computed, IsComputed, IsFree}
 use Rattle.eco_net.specs.CutKeys.{KeyOf, CutKey, CutBits, PinKey, NetKey, IsCutKey, is_source_pin, is_source_at, is_source_top, is_source}
-use Rattle.eco_net.specs.Observables.{ObservedRole, ObservedAt, ObservedTop, IsObservable, observed, value_at, value_top}
+use Rattle.eco_net.specs.Observables.{ObservedRole, ObservedAt, ObservedTop, IsObservable, observed, pin_value, value_top}
 use Rattle.eco_net.specs.Valuation.{table_value, read, Valuation, IsValuation}
-use Rattle.eco_net.specs.Walks.{ReadsNet, Walk, IsLoopFree}
+use Rattle.eco_net.specs.Walks.{ReadsNet, NetWalk, IsLoopFree}
 use Rattle.eco_net.proofs.Basics.{Has, same_Some, not_None, contains_from_has, has_from_contains}
 use Rattle.eco_net.proofs.Decide.{same_comp, same_table}
 use Rattle.eco_net.proofs.Solved.{one_table}
@@ -41,7 +41,7 @@ pub record InPlace (low high : Name) (N M : Netlist) (u : Use) : Type 0 where
   pub spare_drives : Drives spare u.spare_pin u.out spare_table
   pub no_gate : get M.comps u.patch ≡ None
   pub no_spare : get N.comps u.spare ≡ None
-  pub serves : Serves low high table (inputs_of gate) spare_table (inputs_of spare)
+  pub serves : Serves low high table (input_nets gate) spare_table (input_nets spare)
   pub alone : IsDriver N u.out (CompPin u.patch u.patch_pin)
   pub unsupplied : get N.nets u.out ≡ Some None
   pub off_low : u.out ≢ low
@@ -49,7 +49,7 @@ pub record InPlace (low high : Name) (N M : Netlist) (u : Use) : Type 0 where
 
 -- a component that drives nothing and is no box
 pub record Idle (x : Component) : Type 0 where
-  pub no_outside : (p : Name) (d : Dir) → role_of x p ≡ Some (Outside d) → ⊥
+  pub no_outside : (p : Name) (d : Dir) → role_of x p ≡ Some (BoxedPin d) → ⊥
   pub drives_none : (p n : Name) → driven_at (Some x) p ≡ Some n → ⊥
 
 pub record Sim (low high : Name) (N M : Netlist) (uses : List Use) : Type 0 where
@@ -173,9 +173,9 @@ module _ (low high : Name) (N M : Netlist) (uses : List Use) (sim : Sim low high
       let g : p.gate ≡ c.gate = same_Some (sym p.gate_is ∙ ap (get N.comps) (sym w.2) ∙ c.is) in
       let o = p.gate_drives.only c.pin n (ap (λ x. driven_at (Some x) c.pin) g ∙ ap (λ o. driven_at o c.pin) (sym c.is) ∙ c.driver.drives) in
       let s : p.table ≡ t = same_table p.gate_drives.at (ap₂ role_of g (sym o.0) ∙ c.at) in
-      let i : inputs_of p.gate ≡ ins = ap inputs_of g ∙ c.reads in (
+      let i : input_nets p.gate ≡ ins = ap input_nets g ∙ c.reads in (
         p.spare_table,
-        inputs_of p.spare,
+        input_nets p.spare,
         record {
           unsupplied = sym (same_nets n) ∙ c.unsupplied;
           comp = w.0.spare;
@@ -186,7 +186,7 @@ module _ (low high : Name) (N M : Netlist) (uses : List Use) (sim : Sim low high
           at = p.spare_drives.at;
           reads = refl;
         },
-        subst (λ is. Serves low high t is p.spare_table (inputs_of p.spare)) i (subst (λ x. Serves low high x (inputs_of p.gate) p.spare_table (inputs_of p.spare)) s p.serves),
+        subst (λ is. Serves low high t is p.spare_table (input_nets p.spare)) i (subst (λ x. Serves low high x (input_nets p.gate) p.spare_table (input_nets p.spare)) s p.serves),
       ))
       (sim.forth c.comp c.gate c.is)
 
@@ -215,9 +215,9 @@ module _ (low high : Name) (N M : Netlist) (uses : List Use) (sim : Sim low high
       let g : p.spare ≡ c.gate = same_Some (sym p.spare_is ∙ ap (get M.comps) (sym w.2) ∙ c.is) in
       let o = p.spare_drives.only c.pin n (ap (λ x. driven_at (Some x) c.pin) g ∙ d) in
       let s : p.spare_table ≡ u = same_table p.spare_drives.at (ap₂ role_of g (sym o.0) ∙ c.at) in
-      let i : inputs_of p.spare ≡ more = ap inputs_of g ∙ c.reads in (
+      let i : input_nets p.spare ≡ more = ap input_nets g ∙ c.reads in (
         p.table,
-        inputs_of p.gate,
+        input_nets p.gate,
         record {
           unsupplied = same_nets n ∙ c.unsupplied;
           comp = w.0.patch;
@@ -228,7 +228,7 @@ module _ (low high : Name) (N M : Netlist) (uses : List Use) (sim : Sim low high
           at = p.gate_drives.at;
           reads = refl;
         },
-        subst (λ is. Serves low high p.table (inputs_of p.gate) u is) i (subst (λ x. Serves low high p.table (inputs_of p.gate) x (inputs_of p.spare)) s p.serves),
+        subst (λ is. Serves low high p.table (input_nets p.gate) u is) i (subst (λ x. Serves low high p.table (input_nets p.gate) x (input_nets p.spare)) s p.serves),
       ))
       (λ i. absurd (i.drives_none c.pin n d))
       h)
@@ -285,11 +285,11 @@ constant_value N n b cut v (inr m) a = a.computed n (b ∷ []) [] m
 
 -- ---- a component that is a gate has no source pin and no observable but its outputs
 
-source_outside : (o : Option Role) → is_source o ≡ true → (d : Dir) × (o ≡ Some (Outside d))
+source_outside : (o : Option Role) → is_source o ≡ true → (d : Dir) × (o ≡ Some (BoxedPin d))
 source_outside None e = absurd (true≢false (sym e))
-source_outside (Some Reads) e = absurd (true≢false (sym e))
-source_outside (Some (Computes t)) e = absurd (true≢false (sym e))
-source_outside (Some (Outside d)) e = (d, refl)
+source_outside (Some GateInput) e = absurd (true≢false (sym e))
+source_outside (Some (GateOutput t)) e = absurd (true≢false (sym e))
+source_outside (Some (BoxedPin d)) e = (d, refl)
 
 found_source : (N : Netlist) (c p : Name) → is_source_pin N (CompPin c p) ≡ true → (x : Component) × (get N.comps c ≡ Some x) × (is_source (role_of x p) ≡ true)
 found_source N c p d = go (get N.comps c) refl d
@@ -392,7 +392,7 @@ module _ (low high : Name) (N M : Netlist) (uses : List Use) (sim : Sim low high
       }
 
   -- a closed walk passes no tie net, since what drives one reads nothing
-  walk_to_N : (a b : Name) (k : ℕ) → IsReader a → Walk M a b k → Walk N a b k × IsReader b
+  walk_to_N : (a b : Name) (k : ℕ) → IsReader a → NetWalk M a b k → NetWalk N a b k × IsReader b
   walk_to_N a b zero i w = (w, subst IsReader w i)
   walk_to_N a b (suc k) i w =
       let s = walk_to_N a w.0 k i w.1 in
@@ -405,32 +405,32 @@ module _ (low high : Name) (N M : Netlist) (uses : List Use) (sim : Sim low high
 
   role_to_M : (o : Option Role) (j : Option Name) → ObservedRole N o j → ObservedRole M o j
   role_to_M None j h = h
-  role_to_M (Some Reads) j h = h
-  role_to_M (Some (Computes t)) None h = h
-  role_to_M (Some (Computes t)) (Some n) h = free_to_M low high N M uses sim n h
-  role_to_M (Some (Outside Input)) j h = h
-  role_to_M (Some (Outside Output)) j h = h
-  role_to_M (Some (Outside Inout)) j h = h
+  role_to_M (Some GateInput) j h = h
+  role_to_M (Some (GateOutput t)) None h = h
+  role_to_M (Some (GateOutput t)) (Some n) h = free_to_M low high N M uses sim n h
+  role_to_M (Some (BoxedPin Input)) j h = h
+  role_to_M (Some (BoxedPin Output)) j h = h
+  role_to_M (Some (BoxedPin Inout)) j h = h
 
   role_to_N : (o : Option Role) (j : Option Name) → ObservedRole M o j → ObservedRole N o j
   role_to_N None j h = h
-  role_to_N (Some Reads) j h = h
-  role_to_N (Some (Computes t)) None h = h
-  role_to_N (Some (Computes t)) (Some n) h = free_to_N low high N M uses sim n h
-  role_to_N (Some (Outside Input)) j h = h
-  role_to_N (Some (Outside Output)) j h = h
-  role_to_N (Some (Outside Inout)) j h = h
+  role_to_N (Some GateInput) j h = h
+  role_to_N (Some (GateOutput t)) None h = h
+  role_to_N (Some (GateOutput t)) (Some n) h = free_to_N low high N M uses sim n h
+  role_to_N (Some (BoxedPin Input)) j h = h
+  role_to_N (Some (BoxedPin Output)) j h = h
+  role_to_N (Some (BoxedPin Inout)) j h = h
 
 -- an observable pin of a gate is an output that drives a free net
-observed_gate : (N : Netlist) (x : Component) (p : Name) → ((d : Dir) → role_of x p ≡ Some (Outside d) → ⊥) → ObservedAt N (Some x) p → (n : Name) × (driven_at (Some x) p ≡ Some n) × IsFree N n
+observed_gate : (N : Netlist) (x : Component) (p : Name) → ((d : Dir) → role_of x p ≡ Some (BoxedPin d) → ⊥) → ObservedAt N (Some x) p → (n : Name) × (driven_at (Some x) p ≡ Some n) × IsFree N n
 observed_gate N x p none h = go (role_of x p) (get x.joined p) none h
   where
-    go : (o : Option Role) (j : Option Name) → ((d : Dir) → o ≡ Some (Outside d) → ⊥) → ObservedRole N o j → (n : Name) × (cond (is_driving o) j None ≡ Some n) × IsFree N n
+    go : (o : Option Role) (j : Option Name) → ((d : Dir) → o ≡ Some (BoxedPin d) → ⊥) → ObservedRole N o j → (n : Name) × (cond (is_driving o) j None ≡ Some n) × IsFree N n
     go None j none h = absurd h
-    go (Some Reads) j none h = absurd h
-    go (Some (Computes t)) None none h = absurd h
-    go (Some (Computes t)) (Some n) none h = (n, refl, h)
-    go (Some (Outside d)) j none h = absurd (none d refl)
+    go (Some GateInput) j none h = absurd h
+    go (Some (GateOutput t)) None none h = absurd h
+    go (Some (GateOutput t)) (Some n) none h = (n, refl, h)
+    go (Some (BoxedPin d)) j none h = absurd (none d refl)
 
 found_observed : (N : Netlist) (c p : Name) → IsObservable N (CompPin c p) → (x : Component) × (get N.comps c ≡ Some x) × ObservedAt N (Some x) p
 found_observed N c p d = go (get N.comps c) refl d
@@ -453,7 +453,7 @@ module _ (low high : Name) (N M : Netlist) (uses : List Use) (sim : Sim low high
       let s = p.gate_drives.only k o.0 o.1 in
       absurd (o.2.1 (subst (IsComputed N) (sym s.1) (
         p.table,
-        inputs_of p.gate,
+        input_nets p.gate,
         record {
           unsupplied = p.unsupplied;
           comp = w.0.patch;
@@ -480,7 +480,7 @@ module _ (low high : Name) (N M : Netlist) (uses : List Use) (sim : Sim low high
       let s = p.spare_drives.only k o.0 o.1 in
       absurd (o.2.1 (subst (IsComputed M) (sym s.1) (
         p.spare_table,
-        inputs_of p.spare,
+        input_nets p.spare,
         record {
           unsupplied = subst (λ m. get m w.0.out ≡ Some None) sim.nets p.unsupplied;
           comp = w.0.spare;
@@ -507,7 +507,7 @@ module _ (low high : Name) (N M : Netlist) (uses : List Use) (sim : Sim low high
 
   pub same_observed : (v : Valuation) (p : Pin) → IsObservable N p → observed N v p ≡ observed M v p
   same_observed v (TopPin t) h = ap (λ m. value_top v (get m t)) sim.tops
-  same_observed v (CompPin c k) h = let s = seen_in_N c k h in ap (λ o. value_at v o k) (s.1 ∙ sym s.2)
+  same_observed v (CompPin c k) h = let s = seen_in_N c k h in ap (λ o. pin_value v o k) (s.1 ∙ sym s.2)
 
   pub same_meaning : IsLoopFree N → SameMeaning N M
   same_meaning free =

@@ -3,7 +3,7 @@ use Rattle.std.proofs.Common.{◌≡◌, Bool, ◌≢◌, true, false, List, [],
 use Rattle.std.specs.FinMap.{get}
 use Rattle.std.specs.FinSet.{contains}
 use Rattle.eco_common.specs.declared.geometry.Point.{Point}
-use Rattle.eco_net.specs.Netlist.{Name, Netlist, Component, Computes, role_of, inputs_of, CompPin}
+use Rattle.eco_net.specs.Netlist.{Name, Netlist, Component, GateOutput, role_of, input_nets, CompPin}
 use Rattle.eco_net.specs.Drivers.{driven, driven_at, Computed}
 use Rattle.eco_net.specs.Walks.{IsLoopFree}
 use Rattle.eco_net.proofs.Basics.{Has, same_Some, not_None, same_name, has_map, has_of_map, has_append_left, has_append_right, contains_from_has}
@@ -151,7 +151,7 @@ module _ (base : Base) (is : IsBase base) (N M : Netlist) (names used : List Nam
           spare_drives = serving_drives base.low base.high g e.1 r.0 r.3 distinct r.4;
           no_gate = concrete_none (patch_name label g.name) (not_in_M label g.name);
           no_spare = in_none label place (bare base) N N' order keeps new e.1.spare (rel.no_stock e.1.spare (mapped.stock e h)) (λ d j s. not_None (sym r.1 ∙ ap (get M.comps) s ∙ not_in_M label d.name));
-          serves = serving_serves base.low base.high g e.1 r.0 r.3 distinct r.4 (inputs_of (patch_component g (place g.name))) (patch_reads g (place g.name));
+          serves = serving_serves base.low base.high g e.1 r.0 r.3 distinct r.4 (input_nets (patch_component g (place g.name))) (patch_reads g (place g.name));
           alone = record { drives = new_drives g i; only = λ q d. keeps.one_driver g.output (redriven_gate N order g i) q (CompPin (patch_name label g.name) output_pin) d (new_drives g i) };
           unsupplied = output_net label place (bare base) N N' order keeps new g i;
           off_low = λ s. off_tie order N' keeps base.low is.low_tie (subst (IsRedriven N order) s (redriven_gate N order g i));
@@ -270,13 +270,13 @@ module _ (base : Base) (is : IsBase base) (N M : Netlist) (names used : List Nam
       reads = patch_reads g (place g.name);
     }
 
-    pub spare_computes : (e : Pair) → Has pairs e → (x : Component) → get base.full.comps e.1.spare ≡ Some x → (chosen : List Bool) × (role_of x e.1.output ≡ Some (Computes chosen)) × Computed M' e.0.output chosen (map (feed_net base.low base.high e.0.inputs) e.1.feeds)
+    pub spare_computes : (e : Pair) → Has pairs e → (x : Component) → get base.full.comps e.1.spare ≡ Some x → (chosen : List Bool) × (role_of x e.1.output ≡ Some (GateOutput chosen)) × Computed M' e.0.output chosen (map (feed_net base.low base.high e.0.inputs) e.1.feeds)
     spare_computes e h x f =
         let r = free_spare e h in
         let distinct = inputs_distinct r.0.kind (is.whole.names e.1.spare r.0 r.2) in
         let s : r.0 ≡ x = same_Some (sym r.2 ∙ f) in (
           r.4.chosen,
-          subst (λ z. role_of z e.1.output ≡ Some (Computes r.4.chosen)) s r.4.is_output,
+          subst (λ z. role_of z e.1.output ≡ Some (GateOutput r.4.chosen)) s r.4.is_output,
           record {
             unsupplied = subst (λ m. get m e.0.output ≡ Some None) sim_after.nets (new_in_place e h).unsupplied;
             comp = e.1.spare;

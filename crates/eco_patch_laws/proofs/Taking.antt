@@ -5,13 +5,13 @@ use Rattle.std.specs.Option.{option_map}
 use Rattle.std.specs.Ordering.{eq_by_cmp}
 use Rattle.std.specs.FinMap.{get, find}
 use Rattle.eco_common.specs.declared.geometry.Point.{Point}
-use Rattle.eco_net.specs.Netlist.{Name, name_cmp, Netlist, Component, Kind, Gate, Boxed, Role, Computes, Reads, pins_of, input_names, IsNet, IsPin}
+use Rattle.eco_net.specs.Netlist.{Name, name_cmp, Netlist, Component, Kind, Gate, Boxed, Role, GateOutput, GateInput, pins_of, input_names, IsNet, IsPin}
 use Rattle.eco_net.proofs.Basics.{Has, same_Some, not_None, cmp_apart, cmp_itself, has_of_map, contains_from_has, has_from_contains}
 use Rattle.eco_embed.specs.declared.feed.Feed.{Feed}
 use Rattle.eco_embed.specs.declared.feed.Feed.TheVariants.{Zero, One, Input}
 use Rattle.eco_patch_laws.specs.Orders.{PatchGate, Order, Placement, Move}
 use Rattle.eco_common.specs.Joints.{NewJoint}
-use Rattle.eco_net.specs.Joints.{same_pin, Takes}
+use Rattle.eco_net.specs.Joints.{same_pin, CanTake}
 use Rattle.eco_patch_laws.specs.Insertion.{move_joint}
 use Rattle.eco_patch_laws.specs.Realisation.{feed_net, on_pin, feed_joints, spare_joints, all_spare_joints, patch_joints}
 use Rattle.eco_patch_laws.specs.Embeddings.{SpareEmbeds}
@@ -82,12 +82,12 @@ module _ (low high : Name) (g : PatchGate) (spare : Name) where
 
 -- ---- pins by name
 
-found_input : (ins : List Name) (rest : List (Name × Role)) (p : Name) → Has ins p → (r : Role) × (find name_cmp p (map (λ q. (q, Reads)) ins ++ rest) ≡ Some r)
+found_input : (ins : List Name) (rest : List (Name × Role)) (p : Name) → Has ins p → (r : Role) × (find name_cmp p (map (λ q. (q, GateInput)) ins ++ rest) ≡ Some r)
 found_input [] rest p h = absurd h
 found_input (i ∷ ins) rest p h = go (found_input ins rest p) (eq_by_cmp name_cmp p i) refl h
   where
-    go : (Has ins p → (r : Role) × (find name_cmp p (map (λ q. (q, Reads)) ins ++ rest) ≡ Some r)) → (b : Bool) → eq_by_cmp name_cmp p i ≡ b → (i ≡ p) ⊎ Has ins p → (r : Role) × (cond b (Some Reads) (find name_cmp p (map (λ q. (q, Reads)) ins ++ rest)) ≡ Some r)
-    go later true e h = (Reads, refl)
+    go : (Has ins p → (r : Role) × (find name_cmp p (map (λ q. (q, GateInput)) ins ++ rest) ≡ Some r)) → (b : Bool) → eq_by_cmp name_cmp p i ≡ b → (i ≡ p) ⊎ Has ins p → (r : Role) × (cond b (Some GateInput) (find name_cmp p (map (λ q. (q, GateInput)) ins ++ rest)) ≡ Some r)
+    go later true e h = (GateInput, refl)
     go later false e (inl s) = absurd (true≢false (sym (cmp_itself p) ∙ ap (eq_by_cmp name_cmp p) (sym s) ∙ e))
     go later false e (inr h) = later h
 
@@ -186,7 +186,7 @@ module _ (base : Base) (is : IsBase base) (order : Order) (placements : List Pla
         gate = zip_left order.gates placements e h
 
         go : (x : Component) → get base.full.comps e.1.spare ≡ Some x → SpareEmbeds (length e.0.inputs) e.0.table x e.1.output e.1.feeds → Has (spare_joints base.low base.high e.0 e.1 (Some x)) j → IsTaken j
-        go x f m (inl s) = subst IsTaken s ((x, f, (Computes m.chosen, m.is_output)), known e.0.output (as_output e.0 (contains_from_has order.gates e.0 gate) refl))
+        go x f m (inl s) = subst IsTaken s ((x, f, (GateOutput m.chosen, m.is_output)), known e.0.output (as_output e.0 (contains_from_has order.gates e.0 gate) refl))
         go x f m (inr k) =
             let q = feeding_pin base.low base.high e.0 e.1.spare (input_names x.kind) e.1.feeds j k in
             let n = feeding_net base.low base.high e.0 e.1.spare (input_names x.kind) e.1.feeds j k in
@@ -213,7 +213,7 @@ low_net base is = constant_net (bare base) base.low false is.low_is
 pub high_net : (base : Base) → IsBase base → IsNet base.full base.high
 high_net base is = constant_net (bare base) base.high true is.high_is
 
-pub base_takes_joints : (base : Base) (label : Name) (place : Name → Option Point) (order : Order) (placements : List Placement) → IsPatch base label place order placements → Takes base.full order.nets (patch_joints base.low base.high base.full order placements)
+pub base_takes_joints : (base : Base) (label : Name) (place : Name → Option Point) (order : Order) (placements : List Placement) → IsPatch base label place order placements → CanTake base.full order.nets (patch_joints base.low base.high base.full order placements)
 base_takes_joints base label place order placements p =
     let taken = all_taken base p.base_is order placements p.mapped p.keeps.pins_known (λ n. IsNet base.full n ⊎ Contains order.nets n) (inl (low_net base p.base_is)) (inl (high_net base p.base_is)) p.keeps.nets_known in
     record { once = once base p.base_is order placements p.mapped p.keeps.pins_known p.keeps.once.moves; pins = λ j c. (taken j c).0; nets_known = λ j c. (taken j c).1 }

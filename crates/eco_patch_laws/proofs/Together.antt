@@ -6,7 +6,7 @@ use Rattle.std.specs.FinMap.{get}
 use Rattle.eco_net.specs.Netlist.{Name, name_cmp, Netlist, Component, IsNet, IsPin}
 use Rattle.eco_net.proofs.Basics.{Has, not_None, same_name, cmp_apart, contains_from_has, has_from_contains, has_append_left, has_append_right}
 use Rattle.eco_common.specs.Joints.{NewJoint}
-use Rattle.eco_net.specs.Joints.{with_nets, first_each, Takes}
+use Rattle.eco_net.specs.Joints.{with_nets, first_each, CanTake}
 use Rattle.eco_patch_laws.specs.Realisation.{patch_joints}
 use Rattle.eco_net.specs.Bases.{Base, IsBase, bare}
 use Rattle.eco_patch_laws.specs.Rules.{Names, PinsAreKnown}
@@ -100,7 +100,7 @@ module _ (base : Base) where
       (λ n u. ⊎_elim (λ i. inl i) (λ i. inr (contains_from_has (live_nets live) n (subst (λ z. Has z n) (append-nil (live_nets live)) i))) (k.0 n u))
       j (contains_from_has (patch_joints base.low base.high base.full r.0.order r.0.placements) j r.2)
 
-  pub base_takes_live : (live : List Commit) → IsBase base → AreLive base live → Takes base.full (live_nets live) (first_each (live_joints base live))
+  pub base_takes_live : (live : List Commit) → IsBase base → AreLive base live → CanTake base.full (live_nets live) (first_each (live_joints base live))
   base_takes_live live is a =
       let taken : (j : NewJoint) → Contains (first_each (live_joints base live)) j → ((x : Component) × (get base.full.comps j.comp ≡ Some x) × IsPin x j.pin) × (IsNet base.full j.net ⊎ Contains (live_nets live) j.net) =
       λ j c. live_taken is live a j (firsts_among (live_joints base live) j (has_from_contains (first_each (live_joints base live)) j c)) in

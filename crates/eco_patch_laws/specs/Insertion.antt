@@ -45,7 +45,7 @@ abbrev pub with_moves : Netlist → Order → Netlist
 with_moves N order = with_joints N (map move_joint order.moves) order.nets
 
 -- The netlist with the order inserted: the new nets, each moved pin on its `to` net, and each patch gate as a gate with one
--- output, at the point that its name is given, or unplaced. The label tells the gates of several orders apart: the order's
+-- output, at the point that its name is given, or unplaced. The label distinguishes the gates of several orders: the order's
 -- name, or the empty name for an order under test.
 abbrev pub inserted : Name → (Name → Option Point) → Netlist → Order → Netlist
 inserted label place N order = record (with_moves N order) { comps = with_gates label place (with_moves N order).comps order.gates }

@@ -5,14 +5,14 @@ use Rattle.std.specs.List.{Contains, IsDistinct, zip}
 use Rattle.std.specs.Ordering.{eq_by_cmp}
 use Rattle.std.specs.FinMap.{get}
 use Rattle.eco_common.specs.declared.geometry.Point.{Point}
-use Rattle.eco_net.specs.Netlist.{Name, name_cmp, Netlist, Component, Computes, role_of, Pin, CompPin}
+use Rattle.eco_net.specs.Netlist.{Name, name_cmp, Netlist, Component, GateOutput, role_of, Pin, CompPin}
 use Rattle.eco_net.specs.Drivers.{Computed, net_of}
 use Rattle.eco_net.specs.CutKeys.{CutBits}
 use Rattle.eco_net.specs.Valuation.{Valuation, IsValuation}
 use Rattle.eco_net.specs.Walks.{IsLoopFree}
 use Rattle.eco_patch_laws.specs.Orders.{PatchGate, Move, Order, Placement}
 use Rattle.eco_common.specs.Joints.{NewJoint}
-use Rattle.eco_net.specs.Joints.{with_joints, frame, first_each, Takes}
+use Rattle.eco_net.specs.Joints.{with_joints, frame, first_each, CanTake}
 use Rattle.eco_patch_laws.specs.Insertion.{inserted}
 use Rattle.eco_patch_laws.specs.Realisation.{feed_net, patch_joints, realised}
 use Rattle.eco_net.specs.Bases.{Base, IsBase, IsWithout, bare}
@@ -27,7 +27,7 @@ use Rattle.eco_patch_laws.specs.Live.{Commit, AreLive, live_joints, live_nets, a
 
 -- a pin with a joint is on the joint's net
 abbrev pub JointsJoin : Type 0
-JointsJoin = (N : Netlist) (joints : List NewJoint) (nets : List Name) → Takes N nets joints → (j : NewJoint) → Contains joints j → net_of (with_joints N joints nets) (CompPin j.comp j.pin) ≡ Some j.net
+JointsJoin = (N : Netlist) (joints : List NewJoint) (nets : List Name) → CanTake N nets joints → (j : NewJoint) → Contains joints j → net_of (with_joints N joints nets) (CompPin j.comp j.pin) ≡ Some j.net
 
 -- a pin without one is where it was
 abbrev pub OtherPinsStay : Type 0
@@ -98,7 +98,7 @@ abbrev pub SparesCompute : Type 0
 SparesCompute =
     (base : Base) (label : Name) (place : Name → Option Point) (order : Order) (placements : List Placement) → IsPatch base label place order placements
     → (g : PatchGate) (p : Placement) (x : Component) → Contains (zip order.gates placements) (g, p) → get base.full.comps p.spare ≡ Some x
-    → (chosen : List Bool) × (role_of x p.output ≡ Some (Computes chosen)) × Computed (realised base.low base.high base.full order placements) g.output chosen (map (feed_net base.low base.high g.inputs) p.feeds)
+    → (chosen : List Bool) × (role_of x p.output ≡ Some (GateOutput chosen)) × Computed (realised base.low base.high base.full order placements) g.output chosen (map (feed_net base.low base.high g.inputs) p.feeds)
 
 -- the stock stands beside the inserted gates, and drives nothing
 abbrev pub StockIsBeside : Type 0
@@ -110,7 +110,7 @@ StockIsBeside =
 abbrev pub BaseTakesJoints : Type 0
 BaseTakesJoints =
     (base : Base) (label : Name) (place : Name → Option Point) (order : Order) (placements : List Placement) → IsPatch base label place order placements
-    → Takes base.full order.nets (patch_joints base.low base.high base.full order placements)
+    → CanTake base.full order.nets (patch_joints base.low base.high base.full order placements)
 
 -- ---- several live orders
 
@@ -133,7 +133,7 @@ LiveJoints = (base : Base) (live : List Commit) → concrete base live ≡ with_
 
 -- of each pin the last order's joint is one that the base can take
 abbrev pub BaseTakesLive : Type 0
-BaseTakesLive = (base : Base) (live : List Commit) → IsBase base → AreLive base live → Takes base.full (live_nets live) (first_each (live_joints base live))
+BaseTakesLive = (base : Base) (live : List Commit) → IsBase base → AreLive base live → CanTake base.full (live_nets live) (first_each (live_joints base live))
 
 -- the live orders' new nets are distinct, and none is one of the base
 abbrev pub LiveNetsAreNew : Type 0

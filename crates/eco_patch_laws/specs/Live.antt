@@ -17,14 +17,14 @@ pub record Commit : Type 0 where
   pub order : Order
   pub placements : List Placement
 
-abbrev pub place_of : Option Component → Option Point
-place_of None = None
-place_of (Some x) = x.place
+abbrev pub component_place : Option Component → Option Point
+component_place None = None
+component_place (Some x) = x.place
 
 -- the point of the spare that serves a gate
 abbrev pub spare_place : Base → List Placement → Name → Option Point
 spare_place base [] g = None
-spare_place base (p ∷ ps) g = cond (eq_by_cmp name_cmp g p.gate) (place_of (get base.full.comps p.spare)) (spare_place base ps g)
+spare_place base (p ∷ ps) g = cond (eq_by_cmp name_cmp g p.gate) (component_place (get base.full.comps p.spare)) (spare_place base ps g)
 
 -- the netlist with the commit's gates, each at its spare's point
 abbrev pub with_commit : Base → Netlist → Commit → Netlist

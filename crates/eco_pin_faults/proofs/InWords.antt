@@ -8,7 +8,7 @@ use Rattle.eco_def.specs.Named.{NamedComp, NamedPin, NamedDesign}
 use Rattle.eco_issued_laws.specs.Changes.{is_no_component}
 use Rattle.eco_net.specs.Netlist.{Name, Kind}
 use Rattle.eco_net.proofs.Basics.{Has, contains_from_has, has_from_contains, same_Some, not_None}
-use Rattle.eco_elaborate.specs.Netlists.{Kinds, Powers, pin_names}
+use Rattle.eco_elaborate.specs.Netlists.{Kinds, Powers, kind_pins}
 use Rattle.eco_elaborate.specs.Described.{NamesOnce}
 use Rattle.eco_elaborate.specs.Building.{IsSupplyPinOf}
 use Rattle.eco_elaborate.proofs.Names.{same_name, is_name}
@@ -59,13 +59,13 @@ supply_top None e = absurd (true≢false (sym e))
 supply_top (Some true) e = refl
 supply_top (Some false) e = absurd (true≢false (sym e))
 
-signal_kind : (o : Option Kind) (p : Name) → has_signal o p ≡ true → (k : Kind) × (o ≡ Some k) × Contains (pin_names k) p
+signal_kind : (o : Option Kind) (p : Name) → has_signal o p ≡ true → (k : Kind) × (o ≡ Some k) × Contains (kind_pins k) p
 signal_kind None p e = absurd (true≢false (sym e))
 signal_kind (Some k) p e =
-    let a = any_has (λ n. bytes_eq n p) (pin_names k) e in
-    (k, refl, subst (Contains (pin_names k)) (same_name a.0 p a.2) (contains_from_has (pin_names k) a.0 a.1))
+    let a = any_has (λ n. bytes_eq n p) (kind_pins k) e in
+    (k, refl, subst (Contains (kind_pins k)) (same_name a.0 p a.2) (contains_from_has (kind_pins k) a.0 a.1))
 
-signal_model : (kinds : Kinds) (o : Option Name) (p : Name) → is_signal_of kinds o p ≡ true → (m : Name) × (o ≡ Some m) × (has_signal (kinds m) p ≡ true)
+signal_model : (kinds : Kinds) (o : Option Name) (p : Name) → is_signal_of kinds o p ≡ true → (m : Name) × (o ≡ Some m) × (has_signal (kinds.kind m) p ≡ true)
 signal_model kinds None p e = absurd (true≢false (sym e))
 signal_model kinds (Some m) p e = (m, refl, e)
 
@@ -73,11 +73,11 @@ supply_model : (powers : Powers) (o : Option Name) (p : Name) → is_supply_of p
 supply_model powers None p e = absurd (true≢false (sym e))
 supply_model powers (Some m) p e = (m, refl, e)
 
-pub has_kind : (kinds : Kinds) (m p : Name) (k : Kind) → kinds m ≡ Some k → Contains (pin_names k) p → has_signal (kinds m) p ≡ true
-has_kind kinds m p k e h = ap (λ o. has_signal o p) e ∙ has_any (λ n. bytes_eq n p) (pin_names k) p (has_from_contains (pin_names k) p h) (is_name p p refl)
+pub has_kind : (kinds : Kinds) (m p : Name) (k : Kind) → kinds.kind m ≡ Some k → Contains (kind_pins k) p → has_signal (kinds.kind m) p ≡ true
+has_kind kinds m p k e h = ap (λ o. has_signal o p) e ∙ has_any (λ n. bytes_eq n p) (kind_pins k) p (has_from_contains (kind_pins k) p h) (is_name p p refl)
 
-pub kind_has : (kinds : Kinds) (m p : Name) → has_signal (kinds m) p ≡ true → (k : Kind) × (kinds m ≡ Some k) × Contains (pin_names k) p
-kind_has kinds m p e = signal_kind (kinds m) p e
+pub kind_has : (kinds : Kinds) (m p : Name) → has_signal (kinds.kind m) p ≡ true → (k : Kind) × (kinds.kind m ≡ Some k) × Contains (kind_pins k) p
+kind_has kinds m p e = signal_kind (kinds.kind m) p e
 
 -- a component's word
 comp_word : (comp : Name) → bytes_eq comp top_word ≡ false → bytes_eq comp every_word ≡ false → is_no_component comp ≡ false
@@ -102,9 +102,9 @@ module _ (kinds : Kinds) (powers : Powers) (d : NamedDesign) where
       let a = and_parts (not (bytes_eq comp every_word)) (is_signal_of kinds (P.model comp) pin) (sym (ap (λ b. cond b (is_signal_top (P.supply pin)) (not (bytes_eq comp every_word) && is_signal_of kinds (P.model comp) pin)) n) ∙ e) in
       let m = signal_model kinds (P.model comp) pin a.1 in
       let f = named_found (λ (c : NamedComp). c.name) (λ (c : NamedComp). c.model) d.comps comp m.0 m.1 in
-      let k = signal_kind (kinds m.0) pin m.2 in
+      let k = signal_kind (kinds.kind m.0) pin m.2 in
       OfComp (comp_word comp n (flipped (bytes_eq comp every_word) a.0))
-      (record { of = f.0; kind = k.0; found = contains_from_has d.comps f.0 f.1; same = f.2; known = ap kinds f.3 ∙ k.1; has = k.2 }))
+      (record { of = f.0; kind = k.0; found = contains_from_has d.comps f.0 f.1; same = f.2; known = ap kinds.kind f.3 ∙ k.1; has = k.2 }))
       (cases_Bool (bytes_eq comp top_word))
 
   -- ---- supply pins

@@ -7,10 +7,10 @@ use Rattle.eco_def.specs.declared.design.Design.{Design}
 use Rattle.eco_def.specs.Named.{NamedComp, NamedDesign}
 use Rattle.eco_def.specs.View.{design_in}
 use Rattle.eco_def.specs.Sections.{IsReadingOf}
-use Rattle.eco_issued_laws.specs.Changes.{is_no_component}
+use Rattle.eco_issued_laws.specs.Changes.{is_no_component, statements}
 use Rattle.eco_net.specs.Netlist.{Name}
 use Rattle.eco_net.proofs.Basics.{Has, contains_from_has, has_from_contains}
-use Rattle.eco_elaborate.specs.Netlists.{Kinds, statements}
+use Rattle.eco_elaborate.specs.Netlists.{Kinds}
 use Rattle.eco_elaborate.specs.Described.{NamesOnce}
 use Rattle.eco_elaborate.specs.Building.{IsPinOf, IsSupplyPinOf, HasUnknownPin, HasPinOnTwo}
 use Rattle.eco_elaborate.proofs.ReadOnce.{read_once}
@@ -46,9 +46,9 @@ pattern_is kinds text d = first_is (IsPatternOnSignal kinds e) (is_pattern kinds
 
     said : (p : PinPlace) → is_pattern kinds (named text d) p ≡ true → IsPatternOnSignal kinds (named text d) p
     said p t =
-        let a = and_parts (is_every p) (list_any (λ (c : NamedComp). has_signal (kinds c.model) p.pin) (named text d).comps) t in
+        let a = and_parts (is_every p) (list_any (λ (c : NamedComp). has_signal (kinds.kind c.model) p.pin) (named text d).comps) t in
         let b = and_parts p.special (bytes_eq p.comp every_word) a.0 in
-        let c = any_has (λ (c : NamedComp). has_signal (kinds c.model) p.pin) (named text d).comps a.1 in
+        let c = any_has (λ (c : NamedComp). has_signal (kinds.kind c.model) p.pin) (named text d).comps a.1 in
         let k = kind_has kinds c.0.model p.pin c.2 in
         record {
           special = b.0;
@@ -61,9 +61,9 @@ pattern_is kinds text d = first_is (IsPatternOnSignal kinds e) (is_pattern kinds
         }
 
     is : (p : PinPlace) → IsPatternOnSignal kinds (named text d) p → is_pattern kinds (named text d) p ≡ true
-    is p s = and_from (is_every p) (list_any (λ (c : NamedComp). has_signal (kinds c.model) p.pin) (named text d).comps)
+    is p s = and_from (is_every p) (list_any (λ (c : NamedComp). has_signal (kinds.kind c.model) p.pin) (named text d).comps)
         (and_from p.special (bytes_eq p.comp every_word) s.special (is_name p.comp every_word s.every))
-        (has_any (λ (c : NamedComp). has_signal (kinds c.model) p.pin) (named text d).comps s.of (has_from_contains (named text d).comps s.of s.found) (has_kind kinds s.of.model p.pin s.kind s.known s.has))
+        (has_any (λ (c : NamedComp). has_signal (kinds.kind c.model) p.pin) (named text d).comps s.of (has_from_contains (named text d).comps s.of s.found) (has_kind kinds s.of.model p.pin s.kind s.known s.has))
 
 -- ---- no joint is unknown
 

@@ -7,10 +7,10 @@ use Rattle.eco_def.specs.Named.{NamedJoint, NamedNet, joint_names}
 use Rattle.eco_def.specs.View.{joint_in}
 use Rattle.eco_def.specs.Sections.{IsReadingOf}
 use Rattle.eco_common.specs.Joints.{NewJoint}
-use Rattle.eco_issued_laws.specs.Changes.{is_no_component}
+use Rattle.eco_issued_laws.specs.Changes.{is_no_component, statements}
 use Rattle.eco_net.proofs.Basics.{Has, contains_from_has, has_of_map, has_map}
-use Rattle.eco_elaborate.specs.Netlists.{Kinds, Powers, statements}
-use Rattle.eco_elaborate.specs.Stated.{named_net, pins_on, all_pins_on, on_net}
+use Rattle.eco_elaborate.specs.Netlists.{Kinds, Powers}
+use Rattle.eco_elaborate.specs.Stated.{named_net, stated_pins, all_pins_on, joint_on_net}
 use Rattle.eco_elaborate.specs.Described.{IsOn}
 use Rattle.eco_elaborate.specs.Building.{IsPinOf, IsSupplyPinOf}
 use Rattle.eco_elaborate.proofs.Stating.{from_text, of_flat_map, in_flat_map, in_pins, stands_of_pin}
@@ -47,8 +47,8 @@ module _ (text : List ℕ) (d : Design) where
       let s = statement_of p h in
       let ss = statements (named text d) in
       let x : NewJoint = record { comp = p.comp; pin = p.pin; net = p.net } in
-      let same : on_net s.0.name s.1 ≡ x = λ i. record { comp = s.4 i; pin = s.5 i; net = s.6 i } in
-      stands_of_pin ss x (subst (Has (all_pins_on ss)) same (in_flat_map pins_on ss s.0 (on_net s.0.name s.1) s.2 (in_pins s.0 s.1 s.3 (ap is_no_component s.4 ∙ e))))
+      let same : joint_on_net s.0.name s.1 ≡ x = λ i. record { comp = s.4 i; pin = s.5 i; net = s.6 i } in
+      stands_of_pin ss x (subst (Has (all_pins_on ss)) same (in_flat_map stated_pins ss s.0 (joint_on_net s.0.name s.1) s.2 (in_pins s.0 s.1 s.3 (ap is_no_component s.4 ∙ e))))
 
 module _ (kinds : Kinds) (powers : Powers) (text : List ℕ) (d : Design) (r : IsReadingOf text d) (known : AreKnown kinds powers (named text d)) (one : OnOneNet kinds (named text d)) (all : list_all (is_right (named text d)) (joints text d) ≡ true) where
   joint_named : (p : PinPlace) → Has (joints text d) p → NamesPin kinds powers (named text d) p

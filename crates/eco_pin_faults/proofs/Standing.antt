@@ -8,11 +8,10 @@ use Rattle.eco_def.specs.declared.design.Design.{Design}
 use Rattle.eco_def.specs.Named.{NamedPin, NamedJoint, NamedNet, joint_names, pin_names}
 use Rattle.eco_def.specs.View.{joint_in, pin_in}
 use Rattle.eco_common.specs.Joints.{NewJoint}
-use Rattle.eco_issued_laws.specs.Changes.{is_no_component}
+use Rattle.eco_issued_laws.specs.Changes.{is_no_component, statements}
 use Rattle.eco_net.specs.Netlist.{Name}
 use Rattle.eco_net.proofs.Basics.{Has, contains_from_has, has_from_contains, has_map, has_of_map, has_append_left, has_append_right}
-use Rattle.eco_elaborate.specs.Netlists.{statements}
-use Rattle.eco_elaborate.specs.Stated.{named_net, named_pin, pins_on}
+use Rattle.eco_elaborate.specs.Stated.{named_net, named_pin, stated_pins}
 use Rattle.eco_elaborate.specs.Described.{IsOn}
 use Rattle.eco_elaborate.proofs.Members.{has_of_append, of_filter, in_filter}
 use Rattle.eco_elaborate.proofs.Stating.{to_text, of_flat_map, in_flat_map, pin_of_stands, of_pins}
@@ -89,7 +88,7 @@ module _ (text : List ℕ) (d : Design) where
   place_on c p n on =
       let ss = statements (named text d) in
       let x : NewJoint = record { comp = c; pin = p; net = n } in
-      let s = of_flat_map pins_on ss x (pin_of_stands ss x on) in
+      let s = of_flat_map stated_pins ss x (pin_of_stands ss x on) in
       let j = of_pins s.0 x s.2 in
       let q = has_joint s.0 j.0 s.1 j.1 in
       let comp : j.0.comp ≡ c = ap (λ (y : NewJoint). y.comp) j.3 in

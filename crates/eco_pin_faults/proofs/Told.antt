@@ -76,8 +76,8 @@ has_first_net kinds nets P ps p e =
 pub pattern_told : (kinds : Kinds) (text : List ℕ) (d : Design) (models : List (Bor (List ℕ))) (o : Option PlacedPin) → ((test : Name → Bool) → list_any (λ m. test m.now) models ≡ list_any (λ (c : Comp). test (word_bytes text c.model)) d.comps) →
     option_map place_by o ≡ find (is_pattern_on kinds models) (joints text d) → option_map (λ p. pattern_at (place_by p)) o ≡ option_map pattern_at (first_pattern kinds text d)
 pattern_told kinds text d models o h f =
-    let one : (n : Name) → is_signal_on kinds models n ≡ list_any (λ c. has_signal (kinds c.model) n) (named text d).comps = λ n. h (λ m. has_signal (kinds m) n) ∙ sym (any_model (λ m. has_signal (kinds m) n) text d) in
-    let same : is_signal_on kinds models ≡ (λ n. list_any (λ c. has_signal (kinds c.model) n) (named text d).comps) = λ i n. one n i in
+    let one : (n : Name) → is_signal_on kinds models n ≡ list_any (λ c. has_signal (kinds.kind c.model) n) (named text d).comps = λ n. h (λ m. has_signal (kinds.kind m) n) ∙ sym (any_model (λ m. has_signal (kinds.kind m) n) text d) in
+    let same : is_signal_on kinds models ≡ (λ n. list_any (λ c. has_signal (kinds.kind c.model) n) (named text d).comps) = λ i n. one n i in
     told_of pattern_at o (first_pattern kinds text d) (f ∙ ap (λ (on : Name → Bool). find (λ p. is_every p && on p.pin) (joints text d)) same)
 
 abbrev pattern_of : List ℕ → List ℕ → Pattern
@@ -106,7 +106,7 @@ no_every kinds text d nets en e = none_found (is_pattern kinds (named text d)) (
     fails p h =
         let s = of_flat_map (joints_on text) d.nets p h in
         let j = has_of_map (joint_place text s.0) s.0.joints p s.2 in
-        off (is_every p) (list_any (λ (c : NamedComp). has_signal (kinds c.model) p.pin) (named text d).comps) (⊎_elim
+        off (is_every p) (list_any (λ (c : NamedComp). has_signal (kinds.kind c.model) p.pin) (named text d).comps) (⊎_elim
         (λ t.
         let a = and_parts p.special (bytes_eq p.comp every_word) t in
         let special : s.0.special ≡ true = ap (λ (q : PinPlace). q.special) j.2 ∙ a.0 in

@@ -54,7 +54,7 @@ first_differing kinds text d = find (is_on_second kinds (parts_of (named text d)
 
 -- * with a pin that isn't supply on some component's master
 abbrev pub is_pattern : Kinds → NamedDesign → PinPlace → Bool
-is_pattern kinds d p = is_every p && list_any (λ c. has_signal (kinds c.model) p.pin) d.comps
+is_pattern kinds d p = is_every p && list_any (λ c. has_signal (kinds.kind c.model) p.pin) d.comps
 
 abbrev pub first_pattern : Kinds → List ℕ → Design → Option PinPlace
 first_pattern kinds text d = find (is_pattern kinds (named text d)) (joints text d)

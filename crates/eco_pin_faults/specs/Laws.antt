@@ -4,9 +4,9 @@ use Rattle.std.specs.List.{Contains, list_all}
 use Rattle.eco_def.specs.declared.design.Design.{Design}
 use Rattle.eco_def.specs.Named.{NamedComp, NamedPin, NamedJoint, NamedNet, NamedDesign}
 use Rattle.eco_def.specs.Sections.{IsReadingOf}
-use Rattle.eco_issued_laws.specs.Changes.{is_no_component}
+use Rattle.eco_issued_laws.specs.Changes.{is_no_component, statements}
 use Rattle.eco_net.specs.Netlist.{Name, Kind, Netlist}
-use Rattle.eco_elaborate.specs.Netlists.{Kinds, Powers, statements, pin_names}
+use Rattle.eco_elaborate.specs.Netlists.{Kinds, Powers, kind_pins}
 use Rattle.eco_elaborate.specs.Described.{IsOn}
 use Rattle.eco_elaborate.specs.Building.{IsPinOf, IsSupplyPinOf, IsListed, HasUnknownPin, HasPinOnTwo}
 use Rattle.eco_pin_faults.specs.Places.{PinPlace, top_word, every_word, joints, places}
@@ -75,8 +75,8 @@ pub record IsPatternOnSignal (kinds : Kinds) (d : NamedDesign) (p : PinPlace) : 
   pub of : NamedComp
   pub kind : Kind
   pub found : Contains d.comps of
-  pub known : kinds of.model ≡ Some kind
-  pub has : Contains (pin_names kind) p.pin
+  pub known : kinds.kind of.model ≡ Some kind
+  pub has : Contains (kind_pins kind) p.pin
 
 abbrev pub PatternIs : Type 0
 PatternIs = (kinds : Kinds) (text : List ℕ) (d : Design) → FirstIs (IsPatternOnSignal kinds (named text d)) (joints text d) (first_pattern kinds text d)

@@ -15,7 +15,7 @@ use Rattle.eco_pin_faults.specs.Faults.{is_every}
 
 -- one of these models has the pin, and not as a supply pin
 abbrev pub is_signal_on : Kinds → List (Bor (List ℕ)) → Name → Bool
-is_signal_on kinds models n = list_any (λ m. has_signal (kinds m.now) n) models
+is_signal_on kinds models n = list_any (λ m. has_signal (kinds.kind m.now) n) models
 
 abbrev pub is_pattern_on : Kinds → List (Bor (List ℕ)) → PinPlace → Bool
 is_pattern_on kinds models p = is_every p && is_signal_on kinds models p.pin

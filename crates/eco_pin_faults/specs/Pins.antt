@@ -5,7 +5,7 @@ use Rattle.std.specs.Option.{option_map}
 use Rattle.std.specs.Str.{bytes_eq}
 use Rattle.eco_def.specs.Named.{NamedDesign}
 use Rattle.eco_net.specs.Netlist.{Name, Kind}
-use Rattle.eco_elaborate.specs.Netlists.{Kinds, Powers, pin_names}
+use Rattle.eco_elaborate.specs.Netlists.{Kinds, Powers, kind_pins}
 use Rattle.eco_pin_faults.specs.Places.{top_word, every_word}
 
 -- What the names stand for: the model of each component, and of each top pin whether it is supply.
@@ -26,11 +26,11 @@ parts_of d = record {
 -- a macro has the pin, and not as a supply pin
 abbrev pub has_signal : Option Kind → Name → Bool
 has_signal None p = false
-has_signal (Some k) p = list_any (λ n. bytes_eq n p) (pin_names k)
+has_signal (Some k) p = list_any (λ n. bytes_eq n p) (kind_pins k)
 
 abbrev pub is_signal_of : Kinds → Option Name → Name → Bool
 is_signal_of kinds None p = false
-is_signal_of kinds (Some model) p = has_signal (kinds model) p
+is_signal_of kinds (Some model) p = has_signal (kinds.kind model) p
 
 abbrev pub is_supply_of : Powers → Option Name → Name → Bool
 is_supply_of powers None p = false

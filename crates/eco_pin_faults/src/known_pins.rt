@@ -12,7 +12,7 @@ use eco_elaborate::Macros;
 
 /// Whether a macro has the pin, and not as a supply pin.
 pub fn model_has<M: Macros>(macros: &M, model: &[u8], pin: &[u8]) -> Result<bool, Memory>
-    ensures { IfOk result (λ b. b ≡ has_signal (M.kinds macros.now model.now) pin.now) }
+    ensures { IfOk result (λ b. b ≡ has_signal ((M.kinds macros.now).kind model.now) pin.now) }
 {
     match macros.kind(model)? {
         None => Ok(false),

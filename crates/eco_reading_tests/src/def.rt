@@ -2,46 +2,11 @@
 
 use crate::line::{push_bytes, repeated};
 use eco_def::{Comp, DefFault, Design, Joints, NetStatement, TopPin, read_def};
+use eco_small_base::DEF;
 use eco_text::{Word, between};
 use std::alloc::Global;
 use std::process::Abort;
 use std::test::Fail;
-
-const SMALL: &str = "VERSION 5.8 ;
-DIVIDERCHAR \"/\" ;
-BUSBITCHARS \"[]\" ;
-DESIGN top ;
-UNITS DISTANCE MICRONS 1000 ;
-DIEAREA ( 0 0 ) ( 20000 20000 ) ;
-COMPONENTS 7 ;
-- u1 NAND2 + PLACED ( 1000 1000 ) N ;
-- u2 INV + PLACED ( 3000 1000 ) N ;
-- r1 DFF + PLACED ( 5000 1000 ) N ;
-- SP_1 NAND2 + FIXED ( 2000 2000 ) N ;
-- SP_2 NAND2 + FIXED ( 8000 2000 ) N ;
-- SP_3 AOI21 + FIXED ( 6000 2000 ) N ;
-- SP_4 NAND2 + UNPLACED ;
-END COMPONENTS
-PINS 4 ;
-- a + NET a + DIRECTION INPUT + USE SIGNAL ;
-- b + NET b + DIRECTION INPUT + USE SIGNAL ;
-- ck + NET ck + DIRECTION INPUT + USE CLOCK ;
-- q + NET q + DIRECTION OUTPUT + USE SIGNAL ;
-END PINS
-SPECIALNETS 2 ;
-- VDD ( * VDD ) + USE POWER ;
-- VSS ( * VSS ) ( SP_1 A ) ( SP_1 B ) ( SP_2 A ) ( SP_2 B ) ( SP_3 A ) ( SP_3 B ) ( SP_3 C ) + USE GROUND ;
-END SPECIALNETS
-NETS 6 ;
-- a ( PIN a ) ( u1 A ) ;
-- b ( PIN b ) ( u1 B ) ;
-- ck ( PIN ck ) ( r1 CK ) ;
-- n1 ( u1 Y ) ( u2 A ) + ROUTED M1 ( 1000 1000 ) ( 3000 * ) ;
-- n2 ( u2 Y ) ( r1 D ) ;
-- q ( r1 Q ) ( PIN q ) ;
-END NETS
-END DESIGN
-";
 
 const HEAD_LINES: &str = "DIEAREA ( 0 0 ) ( 20000 20000 ) ;
 # written by hand
@@ -251,7 +216,7 @@ fn joints_whose_words_are_near_and_far(rt: HostRuntime) -> Result<(), Fail> {
 
 /// The small base with a longer head, and a property of a component.
 fn with_head_lines(alloc: Global) -> Result<String, Fail> {
-    let text = SMALL.replace(alloc, "DIEAREA ( 0 0 ) ( 20000 20000 ) ;\n", HEAD_LINES)?;
+    let text = DEF.replace(alloc, "DIEAREA ( 0 0 ) ( 20000 20000 ) ;\n", HEAD_LINES)?;
     let comp = "- u1 NAND2 + PLACED ( 1000 1000 ) N";
     let property = "- u1 NAND2 + PLACED ( 1000 1000 ) N + PROPERTY note \"a ; b\"";
     Ok(text.replace(alloc, comp, property)?)
@@ -260,9 +225,9 @@ fn with_head_lines(alloc: Global) -> Result<String, Fail> {
 #[test]
 fn the_small_base_and_its_realistic_head(rt: HostRuntime) -> Result<(), Fail> {
     let alloc = rt.alloc();
-    assert_eq!(rt; told(alloc, SMALL)?.as_str(), "7 4 8 21");
+    assert_eq!(rt; told(alloc, DEF)?.as_str(), "7 4 8 21");
     let second = with_head_lines(alloc)?;
-    assert!(rt; second.len() > SMALL.len() + 200);
+    assert!(rt; second.len() > DEF.len() + 200);
     assert_eq!(rt; told(alloc, second.as_str())?.as_str(), "7 4 8 21");
     Ok(())
 }
@@ -270,12 +235,12 @@ fn the_small_base_and_its_realistic_head(rt: HostRuntime) -> Result<(), Fail> {
 #[test]
 fn each_cut_of_a_design_is_a_fault(rt: HostRuntime) -> Result<(), Fail> {
     let alloc = rt.alloc();
-    let last = SMALL.len().saturating_sub(1);
+    let last = DEF.len().saturating_sub(1);
     for end in 0..last {
-        let cut = SMALL.get(..end).ok_or("no cut")?;
+        let cut = DEF.get(..end).ok_or("no cut")?;
         assert!(rt; read(alloc, cut).is_err(), "the first {end} bytes are read");
     }
-    let whole = SMALL.get(..last).ok_or("no cut")?;
+    let whole = DEF.get(..last).ok_or("no cut")?;
     assert_eq!(rt; told(alloc, whole)?.as_str(), "7 4 8 21");
     Ok(())
 }

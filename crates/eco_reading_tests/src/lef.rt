@@ -3,67 +3,9 @@
 use crate::line::push_bytes;
 use eco_common::Dir;
 use eco_lef::{LefFault, Library, Master, read_lef};
+use eco_small_base::LEF;
 use std::alloc::Global;
 use std::test::Fail;
-
-/// The small base's inverter, as a library writes it.
-const INV: &str = "MACRO INV
-  CLASS CORE ;
-  ORIGIN 0 0 ;
-  SIZE 0.4 BY 2 ;
-  PIN A
-    DIRECTION INPUT ;
-    USE SIGNAL ;
-    PORT
-      LAYER M1 ;
-      RECT 0.1 0.1 0.2 0.2 ;
-    END
-  END A
-  PIN Y
-    DIRECTION OUTPUT ;
-    USE SIGNAL ;
-  END Y
-  PIN VDD
-    DIRECTION INOUT ;
-    USE POWER ;
-  END VDD
-  PIN VSS
-    DIRECTION INOUT ;
-    USE GROUND ;
-  END VSS
-END INV
-";
-
-const NAND2: &str = "MACRO NAND2
-  SIZE 0.6 BY 2 ;
-  PIN A DIRECTION INPUT ; USE SIGNAL ; END A
-  PIN B DIRECTION INPUT ; USE SIGNAL ; END B
-  PIN Y DIRECTION OUTPUT ; USE SIGNAL ; END Y
-  PIN VDD DIRECTION INOUT ; USE POWER ; END VDD
-  PIN VSS DIRECTION INOUT ; USE GROUND ; END VSS
-END NAND2
-";
-
-const AOI21: &str = "MACRO AOI21
-  SIZE 0.8 BY 2 ;
-  PIN A DIRECTION INPUT ; USE SIGNAL ; END A
-  PIN B DIRECTION INPUT ; USE SIGNAL ; END B
-  PIN C DIRECTION INPUT ; USE SIGNAL ; END C
-  PIN Y DIRECTION OUTPUT ; USE SIGNAL ; END Y
-  PIN VDD DIRECTION INOUT ; USE POWER ; END VDD
-  PIN VSS DIRECTION INOUT ; USE GROUND ; END VSS
-END AOI21
-";
-
-const DFF: &str = "MACRO DFF
-  SIZE 1.6 BY 2 ;
-  PIN D DIRECTION INPUT ; USE SIGNAL ; END D
-  PIN CK DIRECTION INPUT ; USE CLOCK ; END CK
-  PIN Q DIRECTION OUTPUT ; USE SIGNAL ; END Q
-  PIN VDD DIRECTION INOUT ; USE POWER ; END VDD
-  PIN VSS DIRECTION INOUT ; USE GROUND ; END VSS
-END DFF
-";
 
 const SMALL: &str =
     "INV 400000x2000000 <A >Y +VDD +VSS;NAND2 600000x2000000 <A <B >Y +VDD +VSS;AOI21 800000x2000000 <A <B <C >Y +VDD +VSS;DFF 1600000x2000000 <D <CK >Q +VDD +VSS;";
@@ -111,18 +53,37 @@ fn told(alloc: Global, text: &str) -> Result<String, Fail> {
     Ok(line)
 }
 
-/// What stands in front of the masters of the small base, and behind them.
-const FRAMES: [(&str, &str); 2] = [
-    ("VERSION 5.8 ;\n", "END LIBRARY\n"),
-    ("VERSION 5.8 ;\nNOTE x ; END NOTE\n", ""),
+/// What stands in the LEF of the small base, and what stands in its place: its inverter as the library of a tool writes
+/// it, another head, and no end.
+const VARIANTS: [(&str, &str); 4] = [
+    ("", ""),
+    (
+        "  SIZE 0.4 BY 2 ;
+  PIN A DIRECTION INPUT ; USE SIGNAL ; END A
+",
+        "  CLASS CORE ;
+  ORIGIN 0 0 ;
+  SIZE 0.4 BY 2 ;
+  PIN A
+    DIRECTION INPUT ;
+    USE SIGNAL ;
+    PORT
+      LAYER M1 ;
+      RECT 0.1 0.1 0.2 0.2 ;
+    END
+  END A
+",
+    ),
+    ("VERSION 5.8 ;\n", "VERSION 5.8 ;\nNOTE x ; END NOTE\n"),
+    ("END LIBRARY\n", ""),
 ];
 
 #[test]
 fn the_library_of_the_small_base(rt: HostRuntime) -> Result<(), Fail> {
     let alloc = rt.alloc();
-    for (head, tail) in FRAMES {
-        let text = format!(in alloc; "{head}{INV}{NAND2}{AOI21}{DFF}{tail}")?;
-        assert_eq!(rt; told(alloc, text.as_str())?.as_str(), SMALL, "{head}");
+    for (old, new) in VARIANTS {
+        let text = LEF.replace(alloc, old, new)?;
+        assert_eq!(rt; told(alloc, text.as_str())?.as_str(), SMALL, "{new}");
     }
     Ok(())
 }

@@ -7,3 +7,4 @@ pub mod DigitSteps
 pub mod Microns
 pub mod Sequence
 mod Examples
+pub mod Calls

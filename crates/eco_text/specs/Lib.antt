@@ -3,6 +3,8 @@ pub mod Splices
 pub mod Bytes
 pub mod Cursor
 pub mod Tokens
+pub mod Parsing
+pub mod Reading
 pub mod Numbers
 pub mod Streams
 pub mod Writing

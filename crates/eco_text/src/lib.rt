@@ -13,6 +13,7 @@ mod schedule;
 mod sink;
 mod source;
 mod word;
+mod word_reader;
 mod words;
 
 pub use crate::byte_sink::ByteSink;
@@ -22,6 +23,7 @@ pub use crate::pieces::{between, bytes_at, part, write_piece, write_pieces};
 pub use crate::sink::Sink;
 pub use crate::source::Source;
 pub use crate::word::{TextFault, Word};
+pub use crate::word_reader::WordReader;
 pub use crate::words::Words;
 pub use eco_common::{Dir, Failed, Point};
 

@@ -1,6 +1,6 @@
 //! Writing pieces of text to a sink.
 
-ghost use Rattle.std.specs.Prelude.{◌≡◌, ◌≤◌, length, slice_range};
+ghost use Rattle.std.specs.Prelude.{◌≡◌, slice_range};
 ghost use Rattle.eco_text.specs.Cursor.{word_bytes};
 ghost use Rattle.eco_text.specs.Writing.{joined, Writes};
 

@@ -1,6 +1,6 @@
 //! Where bytes come from.
 
-ghost use Rattle.std.specs.Prelude.{◌≡◌, ℕ, List, Option, length};
+ghost use Rattle.std.specs.Prelude.{ℕ, List, Option};
 ghost use Rattle.eco_common.specs.Causes.{HasCause};
 ghost use Rattle.eco_text.specs.Streams.{Takes};
 

@@ -1,9 +1,9 @@
 //! The words of a text, one after another.
 
-ghost use Rattle.std.specs.Prelude.{◌≡◌, ◌+◌, ◌<◌, ◌≤◌, ◌==◌, length, drop, Bool, false, Option, Some, None, unwrap_or, position, IfOk, IfSome, IfErr, IsOkAnd, IsSome, Ok, Err, true, slice_index, ◌⊎◌};
+ghost use Rattle.std.specs.Prelude.{◌≡◌, ◌+◌, ◌<◌, ◌≤◌, ◌==◌, length, false, Option, Some, None, unwrap_or, position, IfOk, IfSome, IsOkAnd, IsSome, Ok, Err, true, slice_index, ◌⊎◌};
 ghost use Rattle.std.specs.List.{position_or_len};
 ghost use Rattle.eco_text.specs.Words.{is_blank, word_then, open_quote};
-ghost use Rattle.eco_text.specs.Bytes.{begins_word, is_line_feed, quoted_len, option_add};
+ghost use Rattle.eco_text.specs.Bytes.{begins_word, is_line_feed, quoted_len};
 ghost use Rattle.eco_text.specs.Cursor.{from, token, rest, after, IsWithin};
 
 use crate::word::{TextFault, Word};

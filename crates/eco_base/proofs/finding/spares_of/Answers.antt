@@ -19,4 +19,5 @@ loop-comp-preserved c =
           ∙ ap (λ xs. xs ++ map place_in_row (filter p (option_to_list (slice_get L.comps i)))) c.loop-comp.invariant.rows
           ∙ sym (filter_more place_in_row p L.comps i r.0 r.1);
       numbers = c.in_ok-add_stock.ensures.numbers c.loop-comp.invariant.numbers;
+      points = c.in_ok-add_stock.ensures.points c.loop-comp.invariant.points;
     }

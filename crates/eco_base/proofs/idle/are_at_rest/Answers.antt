@@ -14,7 +14,7 @@ returns-then-not-is_at_rest c =
     let desk = c.args.desk.now in
     let r = row_at (λ (r : CompRow). length (pins r)) (slice_get L.comps c.args.comp.0) c.args.count c.requires in
     let h : c.loop-pin.pin < length (pins r.0) = omega (arith, r.2, c.loop-pin-test.true, c.loop-pin.auto.pin-end) in
-    let p = rests_at L c.counts-counts.ensures.listing desk c.args.comp r.0 c.loop-pin.pin c.is_at_rest.result r.1 h c.is_at_rest.ensures in
+    let p = rests_at L c.facts.ensures.listing desk c.args.comp r.0 c.loop-pin.pin c.is_at_rest.result r.1 h c.is_at_rest.ensures in
     ap (option_map (λ (r : CompRow). list_all (pin_rests desk L.nets r) (pins r))) r.1
     ∙ ap Some (not_all (pin_rests desk L.nets r.0) (pins r.0) c.loop-pin.pin p.0 p.1 (p.2 ∙ c.if-not-is_at_rest.true))
 
@@ -25,5 +25,5 @@ loop-pin-preserved c = λ r e.
     let w = row_at (λ (r : CompRow). length (pins r)) (slice_get L.comps c.args.comp.0) c.args.count c.requires in
     let len = subst (λ (x : CompRow). length (pins x) ≡ c.args.count) (same_Some (sym w.1 ∙ e)) w.2 in
     let h : c.loop-pin.pin < length (pins r) = omega (arith, len, c.loop-pin-test.true, c.loop-pin.auto.pin-end) in
-    let p = rests_at L c.counts-counts.ensures.listing desk c.args.comp r c.loop-pin.pin c.is_at_rest.result e h c.is_at_rest.ensures in
+    let p = rests_at L c.facts.ensures.listing desk c.args.comp r c.loop-pin.pin c.is_at_rest.result e h c.is_at_rest.ensures in
     all_more (pin_rests desk L.nets r) (pins r) c.loop-pin.pin p.0 p.1 (p.2 ∙ c.if-not-is_at_rest.false) (c.loop-pin.invariant r e)

@@ -1,5 +1,6 @@
 use Rattle.std.proofs.lemmas.Result.{err_from_is_err_and}
-use Rattle.eco_base.specs.Joined.{BlamesSupply, BlamesJoints}
+use Rattle.eco_base.specs.Joined.{BlamesSupply}
+use Rattle.eco_base.specs.Opened.{IsFirstOf}
 use Rattle.eco_base.proofs.Fitting.{pins_first, nets_first, patterns_first, supplies_first, on_ok_more, if_err_more}
 use Rattle.eco_base.proofs.joining.check_joints.Goals as goal
 
@@ -23,5 +24,5 @@ returns-clause-none c = on_ok_more c.check_supplies.result (λ supplies. (c.in_o
 
 pub returns-clause-fault : goal.returns-clause-fault
 returns-clause-fault c =
-    if_err_more (BlamesSupply c.args.texts.now) (BlamesJoints c.args.texts.now) c.check_supplies.result
+    if_err_more (BlamesSupply c.args.texts.now) (IsFirstOf c.args.texts.now) c.check_supplies.result
     (supplies_first c.args.texts.now c.requires.fit c.in_ok-check_pins.ensures.none c.in_ok-check_nets.ensures.none c.in_ok-check_patterns.ensures.none) c.check_supplies.ensures.fault

@@ -1,11 +1,11 @@
 use Rattle.std.proofs.Common.{◌∙◌}
-use Rattle.eco_base.proofs.Fitting.{pattern_told}
+use Rattle.eco_base.proofs.Fitting.{pattern_found}
 use Rattle.eco_base.proofs.joining.check_patterns.Goals as goal
 
 pub returns-in-Ok-None-clause-none : goal.returns-in-Ok-None-clause-none
 returns-in-Ok-None-clause-none c =
-    pattern_told c.args.texts.now c.args.table.now c.text.result.now c.design.result.now c.requires c.text.ensures.value c.design.ensures c.in-Ok-None.field-0 c.in-Ok-None.ensures ∙ c.in-Ok-None.field-0-is
+    pattern_found c.args.texts.now c.args.table.now c.text.result.now c.design.result.now c.requires c.text.ensures.value c.design.ensures c.in-Ok-None.field-0 c.in-Ok-None.ensures ∙ c.in-Ok-None.field-0-is
 
 pub returns-in-Ok-Some-clause-fault : goal.returns-in-Ok-Some-clause-fault
 returns-in-Ok-Some-clause-fault c =
-    pattern_told c.args.texts.now c.args.table.now c.text.result.now c.design.result.now c.requires c.text.ensures.value c.design.ensures c.in-Ok-Some.field-0 c.in-Ok-Some.ensures ∙ c.in-Ok-Some.field-0-is
+    pattern_found c.args.texts.now c.args.table.now c.text.result.now c.design.result.now c.requires c.text.ensures.value c.design.ensures c.in-Ok-Some.field-0 c.in-Ok-Some.ensures ∙ c.in-Ok-Some.field-0-is

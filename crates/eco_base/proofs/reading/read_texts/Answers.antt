@@ -2,7 +2,7 @@ use Rattle.std.proofs.Common.{refl, sym, subst}
 use Rattle.std.proofs.lemmas.Result.{err_from_is_err_and}
 use Rattle.eco_def.specs.Sections.{IsReadingOf}
 use Rattle.eco_base.specs.TextFaults.{BlamesDef}
-use Rattle.eco_base.specs.Texts.{TextParts, AreRead, IsReadFrom}
+use Rattle.eco_base.specs.Texts.{TextParts, IsReadFrom}
 use Rattle.eco_base.proofs.LibraryWords.{library_words}
 use Rattle.eco_base.proofs.ReadingFaults.{lef_first, def_first, functions_first, desk_first}
 use Rattle.eco_base.proofs.reading.read_texts.Goals as goal
@@ -36,6 +36,7 @@ pub of-requires : goal.of-requires
 of-requires c = record {
   reading = subst (λ text. IsReadingOf text c.in_ok-design.design) c.deref.ensures.value c.in_ok-design.ensures.design;
   own_names = c.in_ok-library.ensures.names;
+  sizes = c.in_ok-library.ensures.sizes;
   words = library_words c.args.lef.now c.in_ok-library.library c.in_ok-library.ensures.library;
   masters = c.in_ok-functions.ensures.masters;
 }

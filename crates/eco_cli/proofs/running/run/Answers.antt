@@ -1,5 +1,5 @@
 use Rattle.std.proofs.Common.{map, string_bytes}
-use Rattle.eco_cli.proofs.Answering.{done_answers, refused_answers, words_answers, read_answers, write_answers, bad_word_answers}
+use Rattle.eco_cli.proofs.Answering.{done_answers, refused_answers, words_answers, returned_answers, read_answers, write_answers, bad_word_answers}
 use Rattle.eco_cli.proofs.running.run.Goals as goal
 
 pub returns-clause-done : goal.returns-clause-done
@@ -37,3 +37,7 @@ returns-clause-write g c is =
     let out = g.O.Sink.taken in
     write_answers g.H.Host.told g.H.Input.Source.left g.H.Output.Sink.taken c.args.host.now c.work-outcome.new.host (map string_bytes c.args.words.now) (out c.args.out.now) (out c.tell.new.out) (g.O.Sink.faults c.args.out.now) (g.O.Sink.faults c.tell.new.out)
     c.work-outcome.result c.tell.result c.work-outcome.ensures.comes c.tell.ensures.tells is
+
+pub returns-clause-returned : goal.returns-clause-returned
+returns-clause-returned g c command after asks =
+    returned_answers g.H.Host.told g.H.Input.Source.left g.H.Output.Sink.taken c.args.host.now c.work-outcome.new.host (map string_bytes c.args.words.now) c.work-outcome.result command after c.work-outcome.ensures.comes asks

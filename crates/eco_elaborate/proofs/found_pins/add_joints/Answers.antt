@@ -15,12 +15,12 @@ use Rattle.eco_elaborate.proofs.found_pins.add_joints.Goals as goal
 
 pub bounds-found-at : goal.bounds-found-at
 bounds-found-at g c =
-    let long = zip_long (λ j o. FindsComp c.args.maker.now (word_bytes c.args.text.now j.comp) o) c.args.joints.now c.args.found.now c.requires.found in
+    let long = zip_long (λ j o. FindsComp c.args.lookup.now.maker.now (word_bytes c.args.lookup.now.text.now j.comp) o) c.args.joints.now c.args.found.now c.requires.found in
     omega (arith, long, c.loop-at-test.true)
 
 pub add_joint-requires-clause-comp : goal.add_joint-requires-clause-comp
 add_joint-requires-clause-comp g c =
-    zip_at (λ j o. FindsComp c.args.maker.now (word_bytes c.args.text.now j.comp) o) c.args.joints.now c.args.found.now c.requires.found c.loop-at.at no_stated None c.loop-at-test.true
+    zip_at (λ j o. FindsComp c.args.lookup.now.maker.now (word_bytes c.args.lookup.now.text.now j.comp) o) c.args.joints.now c.args.found.now c.requires.found c.loop-at.at no_stated None c.loop-at-test.true
 
 pub add_joint-requires-clause-net : goal.add_joint-requires-clause-net
 add_joint-requires-clause-net g c =
@@ -28,18 +28,18 @@ add_joint-requires-clause-net g c =
 
 pub returns-in_err-add_joint-clause-err : goal.returns-in_err-add_joint-clause-err
 returns-in_err-add_joint-clause-err g c =
-    let powered : Name → Name → Bool = has_supply_pin (g.M.Macros.powers c.args.macros.now) (named_comps c.args.text.now c.args.comps.now) in
-    let f = stated_joint c.args.text.now c.args.maker.now.nets in
+    let powered : Name → Name → Bool = has_supply_pin (g.M.Macros.powers c.args.lookup.now.macros.now) (named_comps c.args.lookup.now.text.now c.args.lookup.now.comps.now) in
+    let f = stated_joint c.args.lookup.now.text.now c.args.lookup.now.maker.now.nets in
     let js = c.args.joints.now in
     let p = err_from_is_err_and c.from_residual.result c.from_residual.ensures.1 in
     let h = has_map f js _ (has_at_place js c.loop-at.at no_stated c.loop-at-test.true) in
     rw (p.1, p.2)
-    (fault_among powered (netlist c.args.maker.now) (f (get_or js c.loop-at.at no_stated) ∷ []) (stated_joints c.args.text.now c.args.maker.now.nets js) c.in_err-add_joint.field-0.0
-    (one_of (f (get_or js c.loop-at.at no_stated)) (stated_joints c.args.text.now c.args.maker.now.nets js) h) c.in_err-add_joint.ensures.err)
+    (fault_among powered (netlist c.args.lookup.now.maker.now) (f (get_or js c.loop-at.at no_stated) ∷ []) (stated_joints c.args.lookup.now.text.now c.args.lookup.now.maker.now.nets js) c.in_err-add_joint.field-0.0
+    (one_of (f (get_or js c.loop-at.at no_stated)) (stated_joints c.args.lookup.now.text.now c.args.lookup.now.maker.now.nets js) h) c.in_err-add_joint.ensures.err)
 
 pub loop-at-preserved : goal.loop-at-preserved
 loop-at-preserved g c =
-    let powered : Name → Name → Bool = has_supply_pin (g.M.Macros.powers c.args.macros.now) (named_comps c.args.text.now c.args.comps.now) in
-    let L = c.args.maker.now in
-    subst (λ (js : List NewJoint). FindsPins powered L js c.args.pins.now.items c.add_joint.new.pins.items) (sym (mapped_at (stated_joint c.args.text.now L.nets) c.args.joints.now c.loop-at.at no_stated c.loop-at-test.true))
+    let powered : Name → Name → Bool = has_supply_pin (g.M.Macros.powers c.args.lookup.now.macros.now) (named_comps c.args.lookup.now.text.now c.args.lookup.now.comps.now) in
+    let L = c.args.lookup.now.maker.now in
+    subst (λ (js : List NewJoint). FindsPins powered L js c.args.pins.now.items c.add_joint.new.pins.items) (sym (mapped_at (stated_joint c.args.lookup.now.text.now L.nets) c.args.joints.now c.loop-at.at no_stated c.loop-at-test.true))
     (pins_more powered L _ _ _ _ _ c.loop-at.invariant c.in_ok-add_joint.ensures.ok)

@@ -10,8 +10,8 @@ use Rattle.eco_elaborate.proofs.found_pins.settle.Goals as goal
 
 pub add_joints-requires-clause-found : goal.add_joints-requires-clause-found
 add_joints-requires-clause-found g c =
-    let L = c.args.maker.now in
-    let word = λ (s : StatedJoint). word_bytes c.args.text.now s.comp in
+    let L = c.args.lookup.now.maker.now in
+    let word = λ (s : StatedJoint). word_bytes c.args.lookup.now.text.now s.comp in
     let names : map (λ (n : Bor Name). n.now) c.deref-2.result.now ≡ map word c.deref-3.result.now =
     ap (map (λ (n : Bor Name). n.now)) c.deref-2.ensures.value ∙ c.in_ok-names.ensures ∙ ap (map word) (c.deref.ensures.value ∙ sym c.deref-3.ensures.value) in
     zip_named (λ n o. FindsComp L n o) word c.deref-2.result.now c.deref-3.result.now c.deref-4.result.now names

@@ -7,5 +7,5 @@ use Rattle.eco_elaborate.proofs.found_pins.settle_many.Goals as goal
 
 pub returns-clause-ok : goal.returns-clause-ok
 returns-clause-ok g c =
-    let powered : Name → Name → Bool = has_supply_pin (g.M.Macros.powers c.args.macros.now) (named_comps c.args.text.now c.args.comps.now) in
-    settles_all powered c.args.text.now c.args.maker.now c.args.pins.now.items c.settle.new.pins.items c.args.waiting.now.items c.settle.new.waiting.items c.settle.result c.settle.ensures.none c.settle.ensures.ok
+    let powered : Name → Name → Bool = has_supply_pin (g.M.Macros.powers c.args.lookup.now.macros.now) (named_comps c.args.lookup.now.text.now c.args.lookup.now.comps.now) in
+    settles_all powered c.args.lookup.now.text.now c.args.lookup.now.maker.now c.args.pins.now.items c.settle.new.pins.items c.args.waiting.now.items c.settle.new.waiting.items c.settle.result c.settle.ensures.none c.settle.ensures.ok

@@ -11,5 +11,5 @@ pub add_comp-requires-clause-new_name : goal.add_comp-requires-clause-new_name
 add_comp-requires-clause-new_name g c =
     let i = c.loop-comp.comp-index in
     let comp : Comp = get_or c.args.comps.now i no_comp in
-    name_is_new (g.M.Macros.kinds c.args.macros.now) (netlist c.loop-comp.maker) (named_comp c.args.text.now) c.args.comps.now i comp c.requires.apart
+    name_is_new (g.M.Macros.kinds c.args.macros.now) c.args.units (netlist c.loop-comp.maker) (named_comp c.args.text.now) c.args.comps.now i comp c.requires.apart
     (c.loop-comp.invariant.comps [] c.requires.none) (slice_get-get_or c.args.comps.now i no_comp c.loop-comp-test.true)

@@ -2,14 +2,14 @@ use Rattle.std.proofs.Common.{[], ◌∷◌, List, get_or, sym, subst, arith}
 use Rattle.eco_def.specs.declared.design.TopPin.{TopPin}
 use Rattle.eco_net.specs.Netlist.{Name}
 use Rattle.eco_elaborate.specs.Stated.{named_pin}
-use Rattle.eco_elaborate.specs.Stages.{value_of, AddsNets}
+use Rattle.eco_elaborate.specs.Stages.{supply_value, AddsNets}
 use Rattle.eco_elaborate.proofs.Adding.{mapped_at, nets_added}
 use Rattle.eco_elaborate.proofs.Fillers.{no_pin}
 use Rattle.eco_elaborate.proofs.listed_nets.add_pin_nets.Goals as goal
 
 pub loop-pin-preserved : goal.loop-pin-preserved
 loop-pin-preserved c =
-    let value = value_of c.args.supplies.now in
+    let value = supply_value c.args.supplies.now in
     let name : TopPin → Name = λ p. (named_pin c.args.text.now p).net in
     let pin : TopPin = get_or c.args.pins.now c.loop-pin.pin-index no_pin in
     let step : AddsNets value (name pin ∷ []) c.loop-pin.maker c.add_net.new.maker =

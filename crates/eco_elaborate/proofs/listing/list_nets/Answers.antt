@@ -5,13 +5,13 @@ use Rattle.std.proofs.lemmas.List.{length-map}
 use Rattle.eco_net.specs.Netlist.{Name}
 use Rattle.eco_net.specs.Listing.{Listing}
 use Rattle.eco_elaborate.specs.Stated.{named_net, named_pin}
-use Rattle.eco_elaborate.specs.Stages.{value_of, AddsNets}
+use Rattle.eco_elaborate.specs.Stages.{supply_value, AddsNets}
 use Rattle.eco_elaborate.proofs.Limited.{few_nets, few_pins}
 use Rattle.eco_elaborate.proofs.Whole.{nets_listed}
 use Rattle.eco_elaborate.proofs.listing.list_nets.Goals as goal
 
-stated : (c : goal.After-as_slice-2) → AddsNets (value_of c.args.supplies.now) (map (λ s. (named_net c.args.text.now s).name) c.args.design.now.nets) c.in_ok-maker.maker c.add_stated_nets.new.maker
-stated c = subst (λ (ss : List NetStatement). AddsNets (value_of c.args.supplies.now) (map (λ s. (named_net c.args.text.now s).name) ss) c.in_ok-maker.maker c.add_stated_nets.new.maker) c.as_slice-nets.ensures c.in_ok-add_stated_nets.ensures
+stated : (c : goal.After-as_slice-2) → AddsNets (supply_value c.args.supplies.now) (map (λ s. (named_net c.args.text.now s).name) c.args.design.now.nets) c.in_ok-maker.maker c.add_stated_nets.new.maker
+stated c = subst (λ (ss : List NetStatement). AddsNets (supply_value c.args.supplies.now) (map (λ s. (named_net c.args.text.now s).name) ss) c.in_ok-maker.maker c.add_stated_nets.new.maker) c.as_slice-nets.ensures c.in_ok-add_stated_nets.ensures
 
 pub add_stated_nets-requires : goal.add_stated_nets-requires
 add_stated_nets-requires c =
@@ -33,6 +33,6 @@ add_pin_nets-requires c =
 
 pub returns : goal.returns
 returns c =
-    nets_listed (value_of c.args.supplies.now) c.args.text.now c.args.design.now c.in_ok-maker.maker c.add_stated_nets.new.maker c.add_pin_nets.new.maker c.in_ok-maker.ensures.rows c.in_ok-maker.ensures.named
-    (subst (λ (ss : List NetStatement). AddsNets (value_of c.args.supplies.now) (map (λ s. (named_net c.args.text.now s).name) ss) c.in_ok-maker.maker c.add_stated_nets.new.maker) c.as_slice-nets.ensures c.in_ok-add_stated_nets.ensures)
-    (subst (λ (ps : List TopPin). AddsNets (value_of c.args.supplies.now) (map (λ p. (named_pin c.args.text.now p).net) ps) c.add_stated_nets.new.maker c.add_pin_nets.new.maker) c.as_slice-2.ensures c.in_ok-add_pin_nets.ensures)
+    nets_listed (supply_value c.args.supplies.now) c.args.text.now c.args.design.now c.in_ok-maker.maker c.add_stated_nets.new.maker c.add_pin_nets.new.maker c.in_ok-maker.ensures.rows c.in_ok-maker.ensures.named
+    (subst (λ (ss : List NetStatement). AddsNets (supply_value c.args.supplies.now) (map (λ s. (named_net c.args.text.now s).name) ss) c.in_ok-maker.maker c.add_stated_nets.new.maker) c.as_slice-nets.ensures c.in_ok-add_stated_nets.ensures)
+    (subst (λ (ps : List TopPin). AddsNets (supply_value c.args.supplies.now) (map (λ p. (named_pin c.args.text.now p).net) ps) c.add_stated_nets.new.maker c.add_pin_nets.new.maker) c.as_slice-2.ensures c.in_ok-add_pin_nets.ensures)

@@ -1,7 +1,7 @@
 use Rattle.std.proofs.Common.{arith, ap, subst, ◌∙◌, List, ℕ, Option, drop}
 use Rattle.eco_bench.proofs.Apart.{within-of}
 use Rattle.eco_match.specs.MatchOut.{IsAnswer, IsExact}
-use Rattle.eco_match.specs.Rows.{head_of, columns_of, work_len}
+use Rattle.eco_match.specs.Rows.{row_bounds, columns_of, work_len}
 use Rattle.eco_match.proofs.Kept.{Written, only-work, rows-kept, costs-kept, costs-read}
 use Rattle.eco_match.proofs.least.match_least.Goals as goal
 
@@ -17,7 +17,7 @@ returns c =
       stands = within-of area r.span c.requires.rows.carved c.requires.rows.stands;
       fits = c.requires.rows.carved.fits;
       size = omega (arith, c.requires.rows.size);
-      head_is = h.ensures.front ∙ ap (λ (xs : List ℕ). head_of r xs) v;
+      head_is = h.ensures.front ∙ ap (λ (xs : List ℕ). row_bounds r xs) v;
       columns_is = o.ensures.back ∙ ap (λ (n : ℕ). drop n h.result.1.now) c.work_words.ensures ∙ ap (λ (xs : List ℕ). drop (work_len r) xs) h.ensures.back ∙ ap (λ (xs : List ℕ). columns_of r xs) v;
       work_is = omega (arith, o.ensures.front_len, c.work_words.ensures, c.match_parts.auto.work);
     } in

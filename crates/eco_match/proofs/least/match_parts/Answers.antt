@@ -1,5 +1,5 @@
 use Rattle.std.proofs.Common.{arith, subst, ℕ, Option}
-use Rattle.eco_match.specs.Least.{Certifies, IsShort, IsLeast, HasNone}
+use Rattle.eco_match.specs.Least.{Certifies, IsShort, IsLeastMatching, HasNone}
 use Rattle.eco_match.specs.MatchOut.{out_spare, out_worth, out_price, out_short}
 use Rattle.eco_match.specs.Table.{table_cost}
 use Rattle.eco_match.proofs.Parts.{answer-all, answer-short, least-all, none-short}
@@ -15,7 +15,7 @@ returns-then-solve c =
     answer-all r t.result c.solve.new.owner out t.ensures.table (omega arith) m.0 m.1 in
     record {
       answer = subst (λ (costs : ℕ → ℕ → Option ℕ). Certifies r.gates costs (out_spare out) (out_worth out) (out_price out)) t.ensures.costs cert;
-      exact = subst (λ (costs : ℕ → ℕ → Option ℕ). IsLeast r.gates costs (out_spare out)) t.ensures.costs (least-all r.gates (table_cost t.result) out cert);
+      exact = subst (λ (costs : ℕ → ℕ → Option ℕ). IsLeastMatching r.gates costs (out_spare out)) t.ensures.costs (least-all r.gates (table_cost t.result) out cert);
     }
 
 pub returns : goal.returns

@@ -6,7 +6,7 @@ use Rattle.eco_net.specs.Netlist.{Name}
 use Rattle.eco_embed.specs.declared.feed.Feed.{Feed}
 use Rattle.eco_patch_laws.specs.Realisation.{feed_joints}
 use Rattle.eco_one_gate.specs.OneGates.{gate_of}
-use Rattle.eco_overlay.specs.PinMoves.{named_joint}
+use Rattle.eco_overlay.specs.PinMoves.{joint_by_names}
 use Rattle.eco_one_gate.proofs.FedPins.{zip_more, zip_whole, fed_more}
 use Rattle.eco_one_gate.proofs.gate_joints.add_all_fed.Goals as goal
 
@@ -22,7 +22,7 @@ loop-pin-preserved c =
     let n = length c.loop-pin.yielded in
     let more = zip_more pins feeds n c.in-Some.pin.now c.in-Some.feed.now t.0 t.1 t.2 t.3 in
     let longer : suc n ≡ length (c.loop-pin.yielded ++ (c.in-Some.pin, c.in-Some.feed) ∷ []) = omega (arith, length_push c.loop-pin.yielded (c.in-Some.pin, c.in-Some.feed)) in
-    subst (λ (ps : List (Name × Feed)). map named_joint c.add_fed.new.joints.items ≡ map named_joint c.args.joints.now.items ++ feed_joints c.args.low.now c.args.high.now (gate_of one) one.spare ps)
+    subst (λ (ps : List (Name × Feed)). map joint_by_names c.add_fed.new.joints.items ≡ map joint_by_names c.args.joints.now.items ++ feed_joints c.args.low.now c.args.high.now (gate_of one) one.spare ps)
     (sym more ∙ ap (λ k. take k pairs) longer)
     (fed_more c.args.low.now c.args.high.now (gate_of one) one.spare (take n pairs) c.args.joints.now.items (c.in-Some.pin.now, c.in-Some.feed.now) c.loop-pin.joints.items c.add_fed.new.joints.items c.loop-pin.invariant c.in_ok-add_fed.ensures)
 
@@ -34,6 +34,6 @@ returns c =
     let first : c.into_iter-pin-iterator.result.a.rest.now ≡ pins = ap (λ z. z.a.rest.now) c.into_iter-pin-iterator.ensures.into_iter_gives ∙ ap (λ z. z.rest.now) c.zip-pin-items.ensures.first ∙ c.iter.ensures.rest in
     let second : c.into_iter-pin-iterator.result.b.rest.now ≡ feeds = ap (λ z. z.b.rest.now) c.into_iter-pin-iterator.ensures.into_iter_gives ∙ ap (λ z. z.rest.now) c.zip-pin-items.ensures.second ∙ c.iter-2.ensures.rest ∙ c.deref.ensures.value in
     let count = zip_end pins feeds c.loop-pin.yielded c.into_iter-pin-iterator.result c.loop-pin.pin-iterator c.next.new.self c.next.result first second c.loop-pin.yielded_by c.in-None.is c.next.ensures.steps in
-    subst (λ (ps : List (Name × Feed)). map named_joint c.loop-pin.joints.items ≡ map named_joint c.args.joints.now.items ++ feed_joints c.args.low.now c.args.high.now (gate_of one) one.spare ps)
+    subst (λ (ps : List (Name × Feed)). map joint_by_names c.loop-pin.joints.items ≡ map joint_by_names c.args.joints.now.items ++ feed_joints c.args.low.now c.args.high.now (gate_of one) one.spare ps)
     (zip_whole pins feeds (length c.loop-pin.yielded) count)
     c.loop-pin.invariant

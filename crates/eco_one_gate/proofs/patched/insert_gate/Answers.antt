@@ -5,7 +5,7 @@ use Rattle.std.proofs.lemmas.List.{take_all}
 use Rattle.eco_one_gate.specs.declared.one_gate.OneGate.{OneGate}
 use Rattle.eco_net.specs.Changes.{with_pin_on}
 use Rattle.eco_net.specs.Netlist.{IsNet}
-use Rattle.eco_net.specs.Listing.{Listing, netlist, pin_named, IsKnownPin, with_joint}
+use Rattle.eco_net.specs.Listing.{Listing, netlist, numbered_pin, IsKnownPin, with_joint}
 use Rattle.eco_net.specs.declared.ids.PinRef.TheVariants.{Pin}
 use Rattle.eco_net.proofs.Basics.{contains_from_has}
 use Rattle.eco_net.proofs.GateNames.{has_at}
@@ -37,7 +37,7 @@ loop-place-preserved c =
 
 pub put_on-requires-2-clause-pin : goal.put_on-requires-2-clause-pin
 put_on-requires-2-clause-pin c =
-    subst (λ n. IsKnownPin c.loop-place.maker (Pin c.in_ok-gate.gate n)) (sym (ap length c.as_slice-inputs.ensures.value ∙ c.requires.rows))
+    subst (λ n. IsKnownPin c.loop-place.maker (Pin c.in_ok-gate.gate n)) (sym (c.from-count.ensures ∙ c.inputs.ensures.value))
     (output_known (netlist c.args.maker.now) c.loop-place.maker c.in_ok-gate.gate c.args.one.now.table (take c.loop-place.place (input_pins c.args.one.now.inputs.items)) c.loop-place.invariant)
 
 pub returns : goal.returns
@@ -45,17 +45,14 @@ returns c =
     let one : OneGate = c.args.one.now in
     let L : Listing = c.loop-place.maker in
     let M : Listing = c.put_on-2.new.maker in
-    let count : length c.as_slice-inputs.result.now ≡ one.table.inputs = ap length c.as_slice-inputs.ensures.value ∙ c.requires.rows in
+    let count : c.from-count.result ≡ one.table.inputs = c.from-count.ensures ∙ c.inputs.ensures.value in
     let all : length (input_pins one.inputs.items) ≤ c.loop-place.place = omega (arith, pins_count one.inputs.items, ap length c.as_slice-inputs.ensures.value) in
     patch_ends (netlist c.args.maker.now) L M c.in_ok-gate.gate one c.put_on-2.result c.requires.rows
     (subst (IsPatching (netlist c.args.maker.now) L c.in_ok-gate.gate (patch_kind one.table)) (take_all c.loop-place.place (input_pins one.inputs.items) all) c.loop-place.invariant)
     (subst (λ k. OnOk c.put_on-2.result ((n : ℕ) × (M ≡ record L { comps = with_joint L.comps c.in_ok-gate.gate.0 k n }))) count c.put_on-2.ensures.rows)
-    (subst (λ k. OnOk c.put_on-2.result (netlist M ≡ with_pin_on (netlist L) (pin_named L (Pin c.in_ok-gate.gate k)) one.output)) count
-    (subst (λ q. OnOk c.put_on-2.result (netlist M ≡ with_pin_on (netlist L) (pin_named L (Pin c.in_ok-gate.gate (length c.as_slice-inputs.result.now))) q)) c.bytes-2.ensures c.put_on-2.ensures.named))
+    (subst (λ k. OnOk c.put_on-2.result (netlist M ≡ with_pin_on (netlist L) (numbered_pin L (Pin c.in_ok-gate.gate k)) one.output)) count
+    (subst (λ q. OnOk c.put_on-2.result (netlist M ≡ with_pin_on (netlist L) (numbered_pin L (Pin c.in_ok-gate.gate c.from-count.result)) q)) c.bytes-2.ensures c.put_on-2.ensures.named))
 
 -- a table has at most six inputs
 pub overflow_cast-place : goal.overflow_cast-place
 overflow_cast-place c = omega (arith, ap length c.as_slice-inputs.ensures.value)
-
-pub overflow_cast-inputs : goal.overflow_cast-inputs
-overflow_cast-inputs c = omega (arith, ap length c.as_slice-inputs.ensures.value)

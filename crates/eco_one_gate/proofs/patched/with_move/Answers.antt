@@ -3,7 +3,7 @@ use Rattle.std.specs.FinMap.{get}
 use Rattle.eco_net.specs.Netlist.{Netlist, CompPin}
 use Rattle.eco_net.specs.Changes.{with_net, with_pin_on}
 use Rattle.eco_net.specs.declared.ids.PinRef.TheVariants.{Pin as PinNumber}
-use Rattle.eco_net.specs.Listing.{Listing, netlist, pin_named}
+use Rattle.eco_net.specs.Listing.{Listing, netlist, numbered_pin}
 use Rattle.eco_net.proofs.Basics.{get_same}
 use Rattle.eco_net.proofs.Numbers.{joint_length}
 use Rattle.eco_one_gate.specs.declared.one_gate.OneGate.{OneGate}
@@ -20,9 +20,9 @@ returns-clause-named c =
     let output = c.bytes-output.result.now in
     let pin = PinNumber c.args.comp c.args.pin in
     let added : netlist c.add_net.new.self ≡ with_net N output None = c.in_ok-add_net.ensures.named ∙ ap (λ L. with_net (netlist L) output None) c.in_ok-maker.ensures in
-    let named : pin_named c.add_net.new.self pin ≡ CompPin one.comp one.pin = ap (λ L. pin_named L pin) c.in_ok-add_net.ensures.ok ∙ ap (λ L. pin_named L pin) c.in_ok-maker.ensures ∙ c.requires.moved.named in
+    let named : numbered_pin c.add_net.new.self pin ≡ CompPin one.comp one.pin = ap (λ L. numbered_pin L pin) c.in_ok-add_net.ensures.ok ∙ ap (λ L. numbered_pin L pin) c.in_ok-maker.ensures ∙ c.requires.moved.named in
     c.in_ok-put_on.ensures.named
-    ∙ ap (λ M. with_pin_on M (pin_named c.add_net.new.self pin) output) added
+    ∙ ap (λ M. with_pin_on M (numbered_pin c.add_net.new.self pin) output) added
     ∙ ap (λ p. with_pin_on (with_net N output None) p output) named
     ∙ ap (λ q. with_pin_on (with_net N q None) (CompPin one.comp one.pin) q) c.bytes-output.ensures
     ∙ moved_is N one

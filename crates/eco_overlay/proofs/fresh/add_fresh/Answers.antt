@@ -13,7 +13,7 @@ returns c =
     let k = c.args.changes.now in
     let fs = map (fresh_of k) k.fresh.items in
     on_ok c.add.result
-    (λ added. added ∙ ap (λ es. c.args.overlay.now ++ es) (appended_is (design_in c.args.text.now d).nets fs c.deref-2.result.now
+    (λ added text. added ∙ ap (λ es. c.args.overlay.now ++ es) (appended_is (design_in text d).nets fs c.deref-2.result.now
     (nil_map (fresh_of k) k.fresh.items ∙ not_nil k.fresh.items k.fresh.len (sym c.is_empty.ensures ∙ c.if-is_empty.false) k.fresh.ok.0)
     (c.deref-2.ensures.value ∙ (rw c.deref.ensures.value at c.in_ok-bytes.ensures) ∙ sym (flat_map-map fresh_text (fresh_of k) k.fresh.items))))
     c.add.ensures

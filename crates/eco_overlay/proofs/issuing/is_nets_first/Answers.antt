@@ -4,7 +4,7 @@ use Rattle.eco_overlay.proofs.Lean.{first_is}
 use Rattle.eco_overlay.proofs.issuing.is_nets_first.Goals as goal
 
 pub returns : goal.returns
-returns c =
+returns c text =
     let d = c.args.design.now in
-    let whole = design_in c.args.text.now d in
-    (rw c.as_slice.ensures at c.is_before_special.ensures) ∙ first_is whole.special whole.nets
+    let whole = design_in text d in
+    (rw c.as_slice.ensures at c.is_before_special.ensures) text ∙ first_is whole.special whole.nets

@@ -4,4 +4,4 @@ use Rattle.eco_base.specs.Census.{IsCensusOf}
 use Rattle.eco_base.proofs.base.Base.census.Goals as goal
 
 pub returns-clause-census : goal.returns-clause-census
-returns-clause-census c = subst (λ (b : BaseParts). IsCensusOf b.texts c.self.inside.census) c.self.view_is c.self.invariant.counted
+returns-clause-census c = subst (λ (b : BaseParts). IsCensusOf b.texts c.self.inside.stocked.census) c.self.view_is c.self.invariant.counted

@@ -5,4 +5,4 @@ use Rattle.eco_base.specs.Bases.{BaseParts, frozen}
 use Rattle.eco_base.proofs.base.Base.depth.Goals as goal
 
 pub returns-clause-depth : goal.returns-clause-depth
-returns-clause-depth c = subst (λ (b : BaseParts). IsDepth (bare (frozen b.texts)) c.self.inside.depth) c.self.view_is c.self.invariant.deep
+returns-clause-depth c = subst (λ (b : BaseParts). IsDepth (bare (frozen b.texts)) c.self.inside.stocked.depth) c.self.view_is c.self.invariant.deep

@@ -10,7 +10,7 @@ use Rattle.eco_def.proofs.reader.Reader.comp_place.Given as goal
 
 -- some clauses were read, and this is their first place
 abbrev pub invariant-clauses : goal.invariant-clauses
-invariant-clauses l = (clauses : List (Option Place)) × (l.place ≡ first_some clauses) × Loops (λ w. not (is_word (codes ";") w)) (λ before. comp_clause) l.initial.self clauses l.self
+invariant-clauses l = (clauses : List (Option Place)) × (l.place ≡ first_some clauses) × Loops (λ w. not (is_word (codes ";") w)) (λ before. comp_clause) l.initial.self.words clauses l.self.words
 
 abbrev pub decreases-clauses : goal.decreases-clauses
-decreases-clauses l = size (left l.self)
+decreases-clauses l = size (left l.self.words)

@@ -12,14 +12,14 @@ use Rattle.eco_def.proofs.reader.Reader.joints.Goals as goal
 
 pub joints-preserved : goal.joints-preserved
 joints-preserved c =
-    one_pushed (is_word (codes "(")) (joint_within (Some c.args.room)) joint_in c.args.self.now c.joints.scratch.items c.push.new.self.items c.joints.self c.next_joint.new.self c.in_ok-joint.joint
+    one_pushed (is_word (codes "(")) (joint_within (Some c.args.room)) joint_in c.args.self.now.words c.joints.scratch.items c.push.new.self.items c.joints.self.words c.next_joint.new.self.words c.in_ok-joint.joint
     c.in_ok-push.ensures.items c.joints.invariant c.joints-test.ensures
-    (subst (λ k. Reads 1 joint_in (where_room (nat_lt k c.args.room) joint) c.joints.self c.next_joint.new.self (Ok c.in_ok-joint.joint)) (c.len.ensures ∙ c.joints.scratch.ok.0 ∙ sym (length-map c.joints.scratch.items (joint_in c.args.self.now.text))) c.in_ok-joint.ensures)
+    (subst (λ k. Reads 1 joint_in (where_room (nat_lt k c.args.room) joint) c.joints.self.words c.next_joint.new.self.words (Ok c.in_ok-joint.joint)) (c.len.ensures ∙ c.joints.scratch.ok.0 ∙ sym (length-map c.joints.scratch.items (joint_in c.args.self.now.words.text))) c.in_ok-joint.ensures)
 
 pub returns-in_err-joint : goal.returns-in_err-joint
 returns-in_err-joint c =
     let p = err_from_is_err_and c.from_residual.result c.from_residual.ensures.1 in
     rw (p.1, p.2)
-    (stuck (is_word (codes "(")) (joint_within (Some c.args.room)) joint_in joints_in c.args.self.now (map (joint_in c.args.self.now.text) c.joints.scratch.items) c.joints.self c.next_joint.new.self c.in_err-joint.field-0.0
+    (stuck (is_word (codes "(")) (joint_within (Some c.args.room)) joint_in joints_in c.args.self.now.words (map (joint_in c.args.self.now.words.text) c.joints.scratch.items) c.joints.self.words c.next_joint.new.self.words c.in_err-joint.field-0.0
     c.joints.invariant c.joints-test.ensures
-    (subst (λ k. Reads 1 joint_in (where_room (nat_lt k c.args.room) joint) c.joints.self c.next_joint.new.self (Err c.in_err-joint.field-0.0)) (c.len.ensures ∙ c.joints.scratch.ok.0 ∙ sym (length-map c.joints.scratch.items (joint_in c.args.self.now.text))) c.in_err-joint.ensures))
+    (subst (λ k. Reads 1 joint_in (where_room (nat_lt k c.args.room) joint) c.joints.self.words c.next_joint.new.self.words (Err c.in_err-joint.field-0.0)) (c.len.ensures ∙ c.joints.scratch.ok.0 ∙ sym (length-map c.joints.scratch.items (joint_in c.args.self.now.words.text))) c.in_err-joint.ensures))

@@ -9,7 +9,7 @@ use Rattle.eco_def.proofs.reader.Reader.joints.Given as goal
 
 -- the joints that were read
 abbrev pub invariant-joints : goal.invariant-joints
-invariant-joints l = Loops (is_word (codes "(")) (joint_within (Some l.fn.room)) l.initial.self (map (joint_in l.initial.self.text) l.scratch.items) l.self
+invariant-joints l = Loops (is_word (codes "(")) (joint_within (Some l.fn.room)) l.initial.self.words (map (joint_in l.initial.self.words.text) l.scratch.items) l.self.words
 
 abbrev pub decreases-joints : goal.decreases-joints
-decreases-joints l = size (left l.self)
+decreases-joints l = size (left l.self.words)

@@ -13,11 +13,11 @@ use Rattle.eco_def.proofs.reader.Reader.nets.Given as goal
 -- the statements that were read, whose names are known, and which lie one after another
 abbrev pub invariant-statements : goal.invariant-statements
 invariant-statements l =
-    ((q : List ℕ) → knows l.names q ≡ is_among (map (λ n. n.name.bytes) (map (net_in l.initial.self.text) l.nets)) q)
-    × Loops (is_word (codes "-")) (net_within (Some l.fn.room)) l.initial.self (map (net_in l.initial.self.text) l.nets) l.self
-    × ArePlacedBetween l.initial.self l.self l.nets
+    ((q : List ℕ) → knows l.names q ≡ is_among (map (λ n. n.name.bytes) (map (net_in l.initial.self.words.text) l.nets)) q)
+    × Loops (is_word (codes "-")) (net_within (Some l.fn.room)) l.initial.self.words (map (net_in l.initial.self.words.text) l.nets) l.self.words
+    × ArePlacedBetween l.initial.self.words l.self.words l.nets
     × AreOfKind l.fn.special l.nets
-    × (l.room_left ≡ room_after l.fn.room (map (net_in l.initial.self.text) l.nets))
+    × (l.room_left ≡ room_after l.fn.room (map (net_in l.initial.self.words.text) l.nets))
 
 abbrev pub decreases-statements : goal.decreases-statements
-decreases-statements l = size (left l.self)
+decreases-statements l = size (left l.self.words)

@@ -7,9 +7,9 @@ use Rattle.eco_def.proofs.reader.Reader.pass_to.Given as goal
 -- the same word is looked for from here on
 abbrev pub invariant-words : goal.invariant-words
 invariant-words l =
-    (l.self.text ≡ l.initial.self.text) × (size (left l.self) ≤ size (left l.initial.self))
-    × ((lo hi : ℕ) → IsInOrder lo hi (left l.initial.self) → IsInOrder lo hi (left l.self))
-    × (pass_to (is_word l.keyword) (left l.self) ≡ pass_to (is_word l.keyword) (left l.initial.self))
+    (l.self.words.text ≡ l.initial.self.words.text) × (size (left l.self.words) ≤ size (left l.initial.self.words))
+    × ((lo hi : ℕ) → IsInOrder lo hi (left l.initial.self.words) → IsInOrder lo hi (left l.self.words))
+    × (pass_to (is_word l.keyword) (left l.self.words) ≡ pass_to (is_word l.keyword) (left l.initial.self.words))
 
 abbrev pub decreases-words : goal.decreases-words
-decreases-words l = size (left l.self)
+decreases-words l = size (left l.self.words)

@@ -13,7 +13,7 @@ returns-then-not-next_is_one_of c =
     let none : List ℕ → PinClauses → List PinClause = λ text kept. [] in
     record {
       clauses = [];
-      reads = stays_refused 0 none pin_clauses c.args.self.now c.bad_statement.result (clauses_refused (left c.args.self.now) c.bad_statement.result (sym c.next_is_one_of.ensures ∙ c.if-not-next_is_one_of.true) c.bad_statement.ensures);
+      reads = stays_refused 0 none pin_clauses c.args.self.now.words c.bad_statement.result (clauses_refused (left c.args.self.now.words) c.bad_statement.result (sym c.next_is_one_of.ensures ∙ c.if-not-next_is_one_of.true) c.bad_statement.ensures);
       kept = tt;
     }
 
@@ -23,6 +23,6 @@ returns c =
     let all : List ℕ → PinClauses → List PinClause = λ text kept. e.clauses in
     record {
       clauses = e.clauses;
-      reads = reads_as 0 all (many_until (is_word (codes ";")) (λ before. pin_clause)) pin_clauses c.args.self.now c.clauses_to_end.new.self c.clauses_to_end.result (clauses_read (left c.args.self.now) (sym c.next_is_one_of.ensures ∙ c.if-not-next_is_one_of.false)) e.reads;
+      reads = reads_as 0 all (many_until (is_word (codes ";")) (λ before. pin_clause)) pin_clauses c.args.self.now.words c.clauses_to_end.new.self.words c.clauses_to_end.result (clauses_read (left c.args.self.now.words) (sym c.next_is_one_of.ensures ∙ c.if-not-next_is_one_of.false)) e.reads;
       kept = e.kept;
     }

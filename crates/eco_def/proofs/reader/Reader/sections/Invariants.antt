@@ -11,9 +11,9 @@ use Rattle.eco_def.proofs.reader.Reader.sections.Given as goal
 -- some parts were read, and these are their sections
 abbrev pub invariant-parts : goal.invariant-parts
 invariant-parts l =
-    (ps : List Part) × AreOf l.initial.self.text l.sections ps
-    × Loops (λ w. not (is_word (codes "END") w)) (part_within (Some whole_room)) l.initial.self ps l.self
-    × SectionsLie l.initial.self l.self l.sections
+    (ps : List Part) × AreOf l.initial.self.words.text l.sections ps
+    × Loops (λ w. not (is_word (codes "END") w)) (part_within (Some whole_room)) l.initial.self.words ps l.self.words
+    × SectionsLie l.initial.self.words l.self.words l.sections
 
 abbrev pub decreases-parts : goal.decreases-parts
-decreases-parts l = size (left l.self)
+decreases-parts l = size (left l.self.words)

@@ -11,7 +11,7 @@ use Rattle.eco_def.proofs.reader.Reader.usage.Given as goal
 
 -- some clauses were read, and this is their first use
 abbrev pub invariant-clauses : goal.invariant-clauses
-invariant-clauses l = (clauses : List (Option Token)) × (usage_in l.initial.self.text l.usage ≡ first_some clauses) × Loops (λ w. not (is_word (codes ";") w)) net_clause l.initial.self clauses l.self
+invariant-clauses l = (clauses : List (Option Token)) × (usage_in l.initial.self.words.text l.usage ≡ first_some clauses) × Loops (λ w. not (is_word (codes ";") w)) net_clause l.initial.self.words clauses l.self.words
 
 abbrev pub decreases-clauses : goal.decreases-clauses
-decreases-clauses l = size (left l.self)
+decreases-clauses l = size (left l.self.words)

@@ -9,7 +9,7 @@ use Rattle.eco_lef.proofs.reader.Reader.library.Given as goal
 
 -- some statements were read, and these are their masters
 abbrev pub invariant-statements : goal.invariant-statements
-invariant-statements l = (ss : List LibraryStatement) × (l.library ≡ masters_of ss) × Loops [] (library_statement (nat_le MAX_MASTERS)) l.initial.self ss l.self
+invariant-statements l = (ss : List LibraryStatement) × (l.library ≡ masters_of ss) × Loops [] (library_statement (nat_le MAX_MASTERS)) l.initial.self.words ss l.self.words
 
 abbrev pub decreases-statements : goal.decreases-statements
-decreases-statements l = word_count (left l.self)
+decreases-statements l = word_count (left l.self.words)

@@ -14,5 +14,5 @@ returns c =
     let known = is_among (names_of c.args.library.now) in
     let full = nat_le MAX_MASTERS (length c.args.library.now) in
     let reads = rw c.len.ensures at c.unused_name.ensures in
-    reads_as 1 token (unused_name heading c.has-known.result full) (new_name heading known full) c.args.self.now c.unused_name.new.self c.unused_name.result
-    (ap (λ k. unused_name heading k full (left c.args.self.now)) (c.has-known.ensures ∙ ap known c.bytes_ahead.ensures)) reads
+    reads_as 1 token (unused_name heading c.has-known.result full) (new_name heading known full) c.args.self.now.words c.unused_name.new.self.words c.unused_name.result
+    (ap (λ k. unused_name heading k full (left c.args.self.now.words)) (c.has-known.ensures ∙ ap known c.bytes_ahead.ensures)) reads

@@ -14,5 +14,5 @@ statements-preserved c =
     let e = c.in_ok-statement.ensures in (
       i.0 ++ s ∷ [],
       c.with-body.ensures ∙ ap (λ b. also_in_pin b s) i.1 ∙ sym (pin_more i.0 s),
-      one_more inside (λ before. pin_statement inside) c.args.self.now i.0 c.statements.self c.pin_statement.new.self s i.2 e.text e.shorter (e.value ∙ ap (λ o. Ok (o, left c.pin_statement.new.self)) c.in-Some.is),
+      one_more inside (λ before. pin_statement inside) c.args.self.now.words i.0 c.statements.self.words c.pin_statement.new.self.words s i.2 e.text e.shorter e.order (e.value ∙ ap (λ o. Ok (o, left c.pin_statement.new.self.words)) c.in-Some.is),
     )

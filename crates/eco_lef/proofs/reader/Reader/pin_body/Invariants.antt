@@ -8,7 +8,7 @@ use Rattle.eco_lef.proofs.reader.Reader.pin_body.Given as goal
 
 -- some statements were read, and this is what they said
 abbrev pub invariant-statements : goal.invariant-statements
-invariant-statements l = (ss : List PinStatement) × (l.body ≡ pin_said ss) × Loops l.inside (λ before. pin_statement l.inside) l.initial.self ss l.self
+invariant-statements l = (ss : List PinStatement) × (l.body ≡ pin_said ss) × Loops l.inside (λ before. pin_statement l.inside) l.initial.self.words ss l.self.words
 
 abbrev pub decreases-statements : goal.decreases-statements
-decreases-statements l = word_count (left l.self)
+decreases-statements l = word_count (left l.self.words)

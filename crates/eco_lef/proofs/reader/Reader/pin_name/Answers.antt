@@ -11,5 +11,5 @@ pub returns : goal.returns
 returns c =
     let inside = c.args.inside.now in
     let known = is_among (pin_names c.args.pins.now) in
-    reads_as 1 token (unused_name inside c.has-known.result false) (new_name inside known false) c.args.self.now c.unused_name.new.self c.unused_name.result
-    (ap (λ k. unused_name inside k false (left c.args.self.now)) (c.has-known.ensures ∙ ap known c.bytes_ahead.ensures)) c.unused_name.ensures
+    reads_as 1 token (unused_name inside c.has-known.result false) (new_name inside known false) c.args.self.now.words c.unused_name.new.self.words c.unused_name.result
+    (ap (λ k. unused_name inside k false (left c.args.self.now.words)) (c.has-known.ensures ∙ ap known c.bytes_ahead.ensures)) c.unused_name.ensures

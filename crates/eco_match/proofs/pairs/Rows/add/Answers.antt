@@ -1,5 +1,5 @@
 use Rattle.std.proofs.Common.{arith, ap, ◌∙◌, List, ℕ, drop, refl}
-use Rattle.eco_match.specs.Rows.{head_of, columns_of, work_len}
+use Rattle.eco_match.specs.Rows.{row_bounds, columns_of, work_len}
 use Rattle.eco_match.proofs.Grown.{wrote, Wrote, rows-added, rows-cost-added, only-wrote}
 use Rattle.eco_match.proofs.pairs.Rows.add.Goals as goal
 
@@ -25,7 +25,7 @@ returns c =
       room = c.requires.room;
       small = omega (arith, c.requires.cost);
       next = c.requires.next;
-      head_is = h.ensures.front ∙ ap (λ (xs : List ℕ). head_of r xs) v;
+      head_is = h.ensures.front ∙ ap (λ (xs : List ℕ). row_bounds r xs) v;
       columns_is = o.ensures.back ∙ ap (λ (n : ℕ). drop n h.result.1.now) c.work_words.ensures ∙ ap (λ (xs : List ℕ). drop (work_len r) xs) h.ensures.back ∙ ap (λ (xs : List ℕ). columns_of r xs) v;
       work_is = omega (arith, o.ensures.front_len, c.work_words.ensures);
       written = c.write_pair.ensures;

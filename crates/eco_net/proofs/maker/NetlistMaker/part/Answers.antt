@@ -2,7 +2,7 @@ use Rattle.std.proofs.Common.{None, ◌≡◌, ◌∙◌, sym, ap, refl, Some, L
 use Rattle.std.proofs.lemmas.Option.{slice_get_read, slice_get_within}
 use Rattle.eco_net.specs.declared.rows.CompRow.{CompRow}
 use Rattle.eco_net.specs.declared.ids.PinRef.TheVariants.{Pin}
-use Rattle.eco_net.specs.Listing.{Listing, without_joint, IsKnownPin, netlist, pin_named}
+use Rattle.eco_net.specs.Listing.{Listing, without_joint, IsKnownPin, netlist, numbered_pin}
 use Rattle.eco_net.specs.Kept.{IsIndexed}
 use Rattle.eco_net.proofs.Places.{has_pin_row}
 use Rattle.eco_net.specs.Changes.{with_pin_off}
@@ -41,4 +41,4 @@ returns-clause-named c =
     let L = before c in
     ap (λ cs. netlist (record L { comps = cs })) (joined c)
     ∙ pin_off_is L c.self.invariant.listing c.args.comp c.args.pin (subst (λ (L : Listing). IsKnownPin L (Pin c.args.comp c.args.pin)) (sym c.self.view_is) c.requires)
-    ∙ ap (λ (M : Listing). with_pin_off (netlist M) (pin_named M (Pin c.args.comp c.args.pin))) c.self.view_is
+    ∙ ap (λ (M : Listing). with_pin_off (netlist M) (numbered_pin M (Pin c.args.comp c.args.pin))) c.self.view_is

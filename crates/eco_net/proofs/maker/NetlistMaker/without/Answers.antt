@@ -1,5 +1,5 @@
 use Rattle.std.proofs.Common.{◌≡◌, ◌∙◌, map, length, sym, ap, arith, subst}
-use Rattle.eco_net.specs.Listing.{Listing, AreApart, netlist}
+use Rattle.eco_net.specs.Listing.{Listing, AreDistinctNames, netlist}
 use Rattle.eco_net.specs.Kept.{IsIndexOf, IsIndexed}
 use Rattle.eco_net.specs.Removal.{unmarked_rows, marked_names, without_comps}
 use Rattle.eco_net.proofs.Removed.{left_apart, left_small, comps_left, comps_are_out}
@@ -12,7 +12,7 @@ index_of-requires-clause-few c =
 
 pub index_of-requires-clause-apart : goal.index_of-requires-clause-apart
 index_of-requires-clause-apart c =
-    subst (λ rows. AreApart (map (λ r. r.name) rows)) (sym (c.deref.ensures.value ∙ c.in_ok-comps.ensures)) (left_apart c.args.marks.now c.self.inside.comps.items c.self.invariant.listing.comps)
+    subst (λ rows. AreDistinctNames (map (λ r. r.name) rows)) (sym (c.deref.ensures.value ∙ c.in_ok-comps.ensures)) (left_apart c.args.marks.now c.self.inside.comps.items c.self.invariant.listing.comps)
 
 pub invariant_of-result : goal.invariant_of-result
 invariant_of-result c =

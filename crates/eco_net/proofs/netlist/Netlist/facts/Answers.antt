@@ -1,7 +1,7 @@
 use Rattle.std.proofs.Common.{subst}
-use Rattle.eco_net.specs.Netlist.{IsWhole}
+use Rattle.eco_net.specs.Netlist.{IsWellFormed}
 use Rattle.eco_net.specs.Listing.{Listing, netlist}
 use Rattle.eco_net.proofs.netlist.Netlist.facts.Goals as goal
 
 pub returns-clause-whole : goal.returns-clause-whole
-returns-clause-whole c = subst (λ (L : Listing). IsWhole (netlist L)) c.self.view_is c.facts.ensures.whole
+returns-clause-whole c = subst (λ (L : Listing). IsWellFormed (netlist L)) c.self.view_is c.facts.ensures.whole

@@ -2,7 +2,7 @@ use Rattle.std.proofs.Common.{◌≡◌, ◌<◌, ◌++◌, sym, subst, map, tak
 use Rattle.std.specs.List.{All}
 use Rattle.eco_net.specs.Walks.{IsClosedWalk}
 use Rattle.eco_net.specs.Listing.{netlist, net_name}
-use Rattle.eco_net.specs.Search.{IsOrder, IsRing, StopIs}
+use Rattle.eco_net.specs.Search.{IsEvaluationOrder, IsRing, StopIs}
 use Rattle.eco_net.specs.Rings.{IsLeastAt}
 use Rattle.eco_net.proofs.Orders.{order_loop_free}
 use Rattle.eco_net.proofs.Rotated.{all_of, ring_known, closed_walk}
@@ -21,12 +21,12 @@ names_from-requires-clause-known c =
     subst (All (λ n. n < length L.nets)) (sym c.deref-in-Err-Ring-2.ensures.value) (all_of (λ n. n < length L.nets) c.in-Err-Ring.ring.items (ring_known L c.in-Err-Ring.ring.items r))
 
 pub depth-requires : goal.depth-requires
-depth-requires c = subst (IsOrder c.args.self.now) (sym c.deref.ensures.value) c.in-Ok.ensures.ok
+depth-requires c = subst (IsEvaluationOrder c.args.self.now) (sym c.deref.ensures.value) c.in-Ok.ensures.ok
 
 pub returns-in_ok-depth-in-Ok-clause-ok : goal.returns-in_ok-depth-in-Ok-clause-ok
 returns-in_ok-depth-in-Ok-clause-ok c =
     let L = c.args.self.now in
-    let o : IsOrder L c.in-Ok.order.items = c.in-Ok.ensures.ok in
+    let o : IsEvaluationOrder L c.in-Ok.order.items = c.in-Ok.ensures.ok in
     record { ordered = o; loop_free = order_loop_free L c.facts.ensures.listing c.in-Ok.order.items o; depth = c.in_ok-depth-in-Ok.ensures }
 
 pub returns-in_ok-nets-in-Err-Ring-clause-stop : goal.returns-in_ok-nets-in-Err-Ring-clause-stop

@@ -1,7 +1,7 @@
 use Rattle.std.proofs.Common.{◌<◌, ◌∙◌, ◌++◌, ◌∷◌, [], ap, sym, refl, subst, Some, ℕ, slice_set, arith, length, sum_by, true≢false}
 use Rattle.std.proofs.lemmas.Option.{slice_get_read}
 use Rattle.eco_net.specs.declared.search.Mark.TheVariants.{Unseen, Open, Done}
-use Rattle.eco_net.specs.Gates.{Reads}
+use Rattle.eco_net.specs.Gates.{FeedsNet}
 use Rattle.eco_net.specs.Among.{Has}
 use Rattle.eco_net.specs.Search.{IsMark, IsSearch, Stays, Chain, IsRing, weight}
 use Rattle.eco_net.proofs.Searching.{entered, left, set_stays, lighter, push_chain, open_unseen, done_unseen}
@@ -42,7 +42,7 @@ returns-in-None-clause-is_search c =
     let s = c.args.search.now in
     let n = c.args.net in
     let e = c.requires.last in
-    let done : (a : ℕ) → Reads L a n → IsMark s.marks.items a Done = λ a r. subst (λ ms. IsMark ms a Done) c.deref.ensures.value (c.in-None.ensures a r) in
+    let done : (a : ℕ) → FeedsNet L a n → IsMark s.marks.items a Done = λ a r. subst (λ ms. IsMark ms a Done) c.deref.ensures.value (c.in-None.ensures a r) in
     on_ok3 c.leave.result (λ p q o.
     subst (λ ms. IsSearch L ms c.leave.new.search.path.items c.leave.new.search.order.items) (sym p)
     (subst (λ xs. IsSearch L (slice_set s.marks.items n Done) xs c.leave.new.search.order.items) (sym (q e.0 e.1))

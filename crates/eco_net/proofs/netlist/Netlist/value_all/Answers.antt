@@ -3,7 +3,7 @@ use Rattle.std.specs.List.{range_with_len}
 use Rattle.std.proofs.lemmas.Option.{slice_get-get_or, slice_get_within}
 use Rattle.std.proofs.lemmas.List.FromFn.{length-map-range_with_len, get_or-map-range_with_len}
 use Rattle.std.specs.FinMap.{get}
-use Rattle.eco_net.specs.Search.{IsOrder}
+use Rattle.eco_net.specs.Search.{IsEvaluationOrder}
 use Rattle.eco_net.specs.Listing.{netlist}
 use Rattle.eco_net.specs.Gates.{GatePin}
 use Rattle.eco_net.specs.ValuesOf.{start, computes, cut_bits, valuation, IsValued}
@@ -27,7 +27,7 @@ loop-net-init c =
     let L = c.args.self.now in
     let cut = c.args.cut.now in
     let order = c.deref-net-items.result.now in
-    let ordered : IsOrder L order = subst (IsOrder L) (sym (c.deref-net-items.ensures.value ∙ ap (λ l. l.order) c.levels.view_is)) c.requires.levels.ordered in
+    let ordered : IsEvaluationOrder L order = subst (IsEvaluationOrder L) (sym (c.deref-net-items.ensures.value ∙ ap (λ l. l.order) c.levels.view_is)) c.requires.levels.ordered in
     let f = start L cut in
     let is : c.in_ok-bits.bits.items ≡ map f (range_with_len 0 (length L.nets)) = c.in_ok-bits.ensures ∙ ap (λ xs. map (start L xs) (range_with_len 0 (length L.nets))) (c.deref.ensures.value ∙ c.cut.view_is) in
     let long : length c.in_ok-bits.bits.items ≡ length L.nets = ap length is ∙ length-map-range_with_len f 0 (length L.nets) in
@@ -40,7 +40,7 @@ pub gate_of-requires : goal.gate_of-requires
 gate_of-requires c =
     let L = c.args.self.now in
     let order = c.deref-net-items.result.now in
-    let ordered : IsOrder L order = subst (IsOrder L) (sym (c.deref-net-items.ensures.value ∙ ap (λ l. l.order) c.levels.view_is)) c.requires.levels.ordered in
+    let ordered : IsEvaluationOrder L order = subst (IsEvaluationOrder L) (sym (c.deref-net-items.ensures.value ∙ ap (λ l. l.order) c.levels.view_is)) c.requires.levels.ordered in
     order_known L order ordered c.loop-net.net-index _ (slice_get-get_or order c.loop-net.net-index 0 c.loop-net-test.true)
 
 pub output_value-value-requires-clause-known : goal.output_value-value-requires-clause-known
@@ -54,7 +54,7 @@ pub index_mut-requires : goal.index_mut-requires
 index_mut-requires c =
     let L = c.args.self.now in
     let order = c.deref-net-items.result.now in
-    let ordered : IsOrder L order = subst (IsOrder L) (sym (c.deref-net-items.ensures.value ∙ ap (λ l. l.order) c.levels.view_is)) c.requires.levels.ordered in
+    let ordered : IsEvaluationOrder L order = subst (IsEvaluationOrder L) (sym (c.deref-net-items.ensures.value ∙ ap (λ l. l.order) c.levels.view_is)) c.requires.levels.ordered in
     let h : get_or order c.loop-net.net-index 0 < length L.nets = order_known L order ordered c.loop-net.net-index _ (slice_get-get_or order c.loop-net.net-index 0 c.loop-net-test.true) in
     omega (arith, h, c.loop-net.invariant.sized, c.loop-net.bits.ok.0)
 
@@ -62,7 +62,7 @@ pub loop-net-preserved : goal.loop-net-preserved
 loop-net-preserved c =
     let L = c.args.self.now in
     let order = c.deref-net-items.result.now in
-    let ordered : IsOrder L order = subst (IsOrder L) (sym (c.deref-net-items.ensures.value ∙ ap (λ l. l.order) c.levels.view_is)) c.requires.levels.ordered in
+    let ordered : IsEvaluationOrder L order = subst (IsEvaluationOrder L) (sym (c.deref-net-items.ensures.value ∙ ap (λ l. l.order) c.levels.view_is)) c.requires.levels.ordered in
     let i = c.loop-net.net-index in
     let n = get_or order i 0 in
     let at : slice_get order i ≡ Some n = slice_get-get_or order i 0 c.loop-net-test.true in
@@ -87,7 +87,7 @@ valued_by c =
     let L = c.args.self.now in
     let cut = c.args.cut.now in
     let order = c.deref-net-items.result.now in
-    let ordered : IsOrder L order = subst (IsOrder L) (sym (c.deref-net-items.ensures.value ∙ ap (λ l. l.order) c.levels.view_is)) c.requires.levels.ordered in
+    let ordered : IsEvaluationOrder L order = subst (IsEvaluationOrder L) (sym (c.deref-net-items.ensures.value ∙ ap (λ l. l.order) c.levels.view_is)) c.requires.levels.ordered in
     let end : c.loop-net.net-index ≡ length order = omega (arith, c.loop-net-test.false, c.loop-net.auto.net-index-end) in
     let w = c.loop-net.invariant in
     record {

@@ -1,0 +1,12 @@
+pub mod Pairs
+pub mod Again
+pub mod Alls
+pub mod Firsts
+pub mod Ascii
+pub mod ReadBack
+pub mod Written
+pub mod Inverted
+pub mod Formed
+pub mod Exact
+pub mod Plain
+pub mod Causes

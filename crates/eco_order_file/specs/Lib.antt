@@ -1,0 +1,11 @@
+pub mod Names
+pub mod Orders
+pub mod Documents
+pub mod Repeats
+pub mod Rules
+pub mod Reading
+pub mod Given
+pub mod OrderValues
+pub mod FieldByField
+pub mod Refusals
+pub mod Laws
